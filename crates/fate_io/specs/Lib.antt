@@ -1,0 +1,5 @@
+pub mod Causes
+pub mod Memory
+pub mod Putting
+pub mod Reading
+pub mod Sending

@@ -1,0 +1,20 @@
+-- What a read of a shelf gives, and the names that failed after it.
+use Rattle.std.specs.Prelude.{◌≡◌, ℕ, ◌<◌, ◌≤◌, List, [], ◌∷◌, ◌++◌, length, Some, Ok, Err, IfSome, IsSomeAnd}
+use Rattle.std.specs.declared.option.Option.{Option}
+use Rattle.std.specs.declared.result.Result.{Result}
+use Rattle.fate_io.specs.declared.shelves.ShelfFault.{ShelfFault}
+use Rattle.fate_io.specs.declared.shelves.ShelfFault.TheVariants.{Failed, Long, NoMemory}
+
+-- a read that failed adds its name at the end of those that failed, and every other read leaves them
+abbrev pub FailedAfter : {T : Type 0} → List (List ℕ) → List (List ℕ) → List ℕ → Result T ShelfFault → Type 0
+FailedAfter old new name (Ok x) = new ≡ old
+FailedAfter old new name (Err Failed) = new ≡ old ++ name ∷ []
+FailedAfter old new name (Err Long) = new ≡ old
+FailedAfter old new name (Err NoMemory) = new ≡ old
+
+-- a read gives the whole content where it is short enough, and nothing after a fault; what is told of the name agrees with it
+abbrev pub ReadGives : {T : Type 0} → Option (Option (List ℕ)) → ℕ → List ℕ → Result T ShelfFault → Type 0
+ReadGives held most into (Ok x) = (length into ≤ most) × IfSome held (λ content. content ≡ Some into)
+ReadGives held most into (Err Failed) = into ≡ []
+ReadGives held most into (Err Long) = (into ≡ []) × IfSome held (λ content. IsSomeAnd content (λ bytes. most < length bytes))
+ReadGives held most into (Err NoMemory) = into ≡ []

@@ -1,0 +1,74 @@
+//! A writer of the machine, as a sink.
+ghost use Rattle.std.specs.Prelude.{◌≡◌, ℕ};
+ghost use Rattle.fate_io.specs.Putting.{Puts, OutView};
+
+use crate::sinks::{Failed, Sink};
+use std::io::{ErrorKind, Write};
+use std::marker::Model;
+
+/// A writer whose failures are counted. It keeps nothing back: each put goes out as it comes.
+#[derive(Drop)]
+pub struct OutSink<W: Write + Drop> {
+    out: W,
+    faults: u64,
+}
+
+impl<W: Write + Drop> Model for OutSink<W> {
+    ghost Value = { OutView };
+
+    ghost view = { λ s. record { written = W.contents s.out; faults = s.faults } };
+}
+
+impl<W: Write + Drop> OutSink<W> {
+    /// A sink over a writer, of which no put has failed.
+    pub fn new(out: W) -> OutSink<W>
+        ensures { result ≡ record { written = W.contents out; faults = 0 } }
+    {
+        OutSink { out, faults: 0 }
+    }
+}
+
+/// Writes the whole piece, or a front of it. A write that takes nothing is a failure, and one that
+/// was interrupted is tried again.
+fn write_whole<W: Write>(out: &mut W, piece: &[u8]) -> Result<(), Failed>
+    ensures { Puts (W.contents out.old) (W.contents out.new) piece.now result }
+{
+    let mut rest = piece;
+    for _ in 0..u64::MAX {
+        if rest.is_empty() {
+            return Ok(());
+        }
+        match out.write(rest) {
+            Ok(0) => return Err(Failed),
+            Ok(count) => {
+                let (_, later) = rest.split_at(count);
+                rest = later;
+            }
+            Err(error) => {
+                if error.kind() != ErrorKind::Interrupted {
+                    return Err(Failed);
+                }
+            }
+        }
+    }
+    Err(Failed)
+}
+
+impl<W: Write + Drop> Sink for OutSink<W> {
+    ghost written = { λ s. s.written };
+
+    ghost faults = { λ s. s.faults };
+
+    fn put(&mut self, bytes: &[u8]) -> Result<(), Failed> {
+        if bytes.is_empty() {
+            return Ok(());
+        }
+        match write_whole(&mut self.out, bytes) {
+            Ok(()) => Ok(()),
+            Err(failed) => {
+                self.faults = self.faults.saturating_add(1);
+                Err(failed)
+            }
+        }
+    }
+}

@@ -1,0 +1,3 @@
+pub mod Scopes
+pub mod Steps
+pub mod Formed

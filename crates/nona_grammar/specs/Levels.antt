@@ -1,0 +1,59 @@
+-- How tokens are written, and how tightly operators bind.
+use Rattle.std.specs.Prelude.{ℕ, ℤ, List, None, Some}
+use Rattle.std.specs.declared.option.Option.{Option}
+use Rattle.nona_lex.specs.declared.tokens.Keyword.{Keyword}
+use Rattle.nona_lex.specs.declared.tokens.Sign.{Sign}
+use Rattle.nona_lex.specs.declared.tokens.Operator.{Operator}
+use Rattle.nona_lex.specs.declared.tokens.Operator.TheVariants as operator
+use Rattle.nona_lex.specs.declared.tokens.Token.{Token}
+use Rattle.nona_lex.specs.declared.tokens.Token.TheVariants as token
+use Rattle.nona_lex.specs.declared.tokens.Spot.{Spot}
+use Rattle.nona_tree.specs.declared.names.Use.{Use}
+use Rattle.nona_tree.specs.declared.trees.Op.{Op}
+use Rattle.nona_tree.specs.declared.trees.Op.TheVariants as op
+
+-- a token in its place
+abbrev pub spot : Token → ℕ → Spot
+spot t at = record { token = t; at = at }
+
+abbrev pub word : Keyword → ℕ → Spot
+word k at = spot (token.Word k) at
+
+abbrev pub sign : Sign → ℕ → Spot
+sign x at = spot (token.Sign x) at
+
+abbrev pub name : List ℕ → ℕ → Spot
+name n at = spot (token.Name n) at
+
+abbrev pub number : ℤ → ℕ → Spot
+number n at = spot (token.Number n) at
+
+-- a name in the text, whose id isn't known yet
+abbrev pub named : List ℕ → ℕ → Use
+named n at = record { text = n; at = at; id = 0 }
+
+-- the token that a binary operator is written as
+abbrev pub written : Op → Operator
+written op.Add = operator.Add
+written op.Sub = operator.Sub
+written op.Mul = operator.Mul
+
+-- the binary operator that a token is, where it is one of the language's
+abbrev pub op_of : Operator → Option Op
+op_of operator.Add = Some op.Add
+op_of operator.Sub = Some op.Sub
+op_of operator.Mul = Some op.Mul
+op_of _ = None
+
+abbrev pub joining : Op → ℕ → Spot
+joining o at = spot (token.Operator (written o)) at
+
+-- the level of a binary operator: the lower, the tighter it binds
+abbrev pub level : Op → ℕ
+level op.Mul = 1
+level op.Add = 2
+level op.Sub = 2
+
+-- the loosest level
+abbrev pub loosest : ℕ
+loosest = 2

@@ -1,0 +1,5 @@
+pub mod Levels
+pub mod Grammar
+pub mod Stack
+pub mod Machine
+pub mod Faults

@@ -1,0 +1,26 @@
+//! The grammar: which tokens are which program.
+//!
+//! `specs/Grammar.antt` states it as relations between tokens and trees. `specs/Machine.antt` reads tokens once from
+//! left to right. `specs/Faults.antt` says where tokens stop being a program. The two functions do nothing when they
+//! are called: their contracts are the laws of the three.
+#![tactic(auto)]
+
+ghost use Rattle.std.specs.Prelude.{◌≡◌, ℕ, List, [], ◌∷◌, Ok, Err};
+ghost use Rattle.nona_lex.specs.declared.tokens.Spot.{Spot};
+ghost use Rattle.nona_tree.specs.declared.trees.Program.{Program};
+ghost use Rattle.nona_grammar.specs.Faults.{FaultAt};
+ghost use Rattle.nona_grammar.specs.Grammar.{IsProgram};
+ghost use Rattle.nona_grammar.specs.Machine.{Decls, Stmts, build};
+ghost use Rattle.nona_grammar.specs.Stack.{Trees, empty, whole_of};
+
+/// The machine reads exactly the programs of the grammar, so no list of tokens is two programs.
+pub fn grammar_is_read()
+    ensures complete { (end : ℕ) (ss : List Spot) (p : Program) → IsProgram ss p → build end (Decls ∷ Stmts ∷ []) empty ss ≡ Ok (whole_of p) }
+    ensures sound { (end : ℕ) (ss : List Spot) (out : Trees) → build end (Decls ∷ Stmts ∷ []) empty ss ≡ Ok out → (p : Program) × IsProgram ss p × (out ≡ whole_of p) }
+    ensures one_tree { (ss : List Spot) (p q : Program) → IsProgram ss p → IsProgram ss q → p ≡ q }
+{}
+
+/// Where the machine is stuck, the tokens before can still become a program, and with the one there they can't.
+pub fn fault_is_exact()
+    ensures { (end : ℕ) (ss : List Spot) (at : ℕ) → build end (Decls ∷ Stmts ∷ []) empty ss ≡ Err at → FaultAt end ss at }
+{}

@@ -1,0 +1,5 @@
+pub mod Choices
+pub mod Within
+pub mod Lexing
+pub mod Spelled
+pub mod Longest

@@ -1,0 +1,18 @@
+//! Bytes of a program's text to tokens.
+//!
+//! `specs/` says what the tokens of a text are: `Words` and `Signs` how each is spelled, `Lexis` the list by the
+//! longest match, and `Bounds` how deep brackets and operators may stand. `Spelling` and `Laws` say in words of the
+//! text alone what the longest match is.
+#![tactic(auto)]
+
+mod bounds;
+mod law;
+mod lexer;
+mod pieces;
+#[cfg(test)]
+mod tests;
+mod tokens;
+
+pub use law::longest_match;
+pub use lexer::read_tokens;
+pub use tokens::{Cut, Fault, Keyword, Operator, Sign, Spot, Token, Tokens};

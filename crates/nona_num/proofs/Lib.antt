@@ -1,0 +1,4 @@
+pub mod Wrapping
+pub mod Products
+pub mod NumberLaws
+pub mod FoldLaws

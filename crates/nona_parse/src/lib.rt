@@ -1,0 +1,17 @@
+//! The text of a program to its tree, by one function for each kind of the grammar.
+//!
+//! `specs/Reading.antt` says which program a text is. `specs/Steps.antt` is what the functions within say of the
+//! tokens that they take.
+#![tactic(auto)]
+
+mod declarations;
+mod expressions;
+mod fault;
+mod pieces;
+mod program;
+mod statements;
+#[cfg(test)]
+mod tests;
+
+pub use fault::ParseFault;
+pub use program::{parse, reads_one_tree};

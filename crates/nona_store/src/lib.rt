@@ -1,0 +1,8 @@
+//! The store that a program computes on.
+#![tactic(auto)]
+
+mod store;
+#[cfg(test)]
+mod tests;
+
+pub use store::Store;
