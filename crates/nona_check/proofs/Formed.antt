@@ -14,9 +14,9 @@ use Rattle.nona_tree.specs.declared.trees.Loop.{Loop}
 use Rattle.nona_tree.specs.declared.trees.Stmt.{Stmt, Set, Fold, For', For, Print, Row_of-Stmt, end_of-Stmt, more_of-Stmt}
 use Rattle.nona_tree.specs.declared.trees.VarDecl.{VarDecl}
 use Rattle.nona_tree.specs.declared.trees.Program.{Program}
-use Rattle.nona_tree.specs.Names.{Visible, id_of, is_index, is_free, both, use_with_id, target_with_id, expr_with_ids, turn_bound, unit_bound, is_short, with_index, loop_with_ids, stmt_with_ids, row_with_ids, all_with_ids, vars_with_ids, variables}
-use Rattle.nona_tree.specs.WellFormed.{IsNamed, IsShort, IsWellFormed, AreWellFormed}
-use Rattle.nona_tree.proofs.Equations.{named-Binary, formed-For}
+use Rattle.nona_tree.specs.Names.{Visible, id_of, is_index, is_free, both, use_with_id, target_with_id, is_small_op, expr_with_ids, turn_bound, unit_bound, is_short, with_index, loop_with_ids, stmt_with_ids, row_with_ids, all_with_ids, vars_with_ids, variables}
+use Rattle.nona_tree.specs.WellFormed.{IsSmallExpr, IsShort, IsWellFormed, AreWellFormed}
+use Rattle.nona_tree.proofs.Equations.{small-Binary, formed-For}
 
 -- ---- the parts of what is there
 
@@ -49,18 +49,20 @@ use_below x vs y e =
 target_below : (x : Use) (vs : List Visible) (y : Use) → target_with_id x vs ≡ Some y → y.id < length vs
 target_below x vs y e = use_below x vs y (unless_part (is_index x.text vs) (use_with_id x vs) y e)
 
-named : (e : Expr) (vs : List Visible) (t : Expr) → expr_with_ids e vs ≡ Some t → IsNamed t (length vs)
-named (Number v) vs t is = subst (λ (u : Expr). IsNamed u (length vs)) (same_Some (Number v) t is) tt
-named (Scalar x) vs t is =
+small : (e : Expr) (vs : List Visible) (t : Expr) → expr_with_ids e vs ≡ Some t → IsSmallExpr t (length vs)
+small (Number v) vs t is = subst (λ (u : Expr). IsSmallExpr u (length vs)) (same_Some (Number v) t is) tt
+small (Scalar x) vs t is =
     let part = map_part Scalar (use_with_id x vs) t is in
-    subst (λ (u : Expr). IsNamed u (length vs)) part.2 (use_below x vs part.0 part.1)
-named (Binary' op at p (more_of-Expr left end_of-Expr) q (more_of-Expr right end_of-Expr)) vs t is =
-    let parts = both_parts (expr_with_ids left vs) (expr_with_ids right vs) (λ a b. Binary op at a b) t is in
-    subst (λ (u : Expr). IsNamed u (length vs)) parts.4
-    (subst (λ P. P) (sym (named-Binary op at parts.0 parts.1 (length vs))) (named left vs parts.0 parts.2, named right vs parts.1 parts.3))
+    subst (λ (u : Expr). IsSmallExpr u (length vs)) part.2 (use_below x vs part.0 part.1)
+small (Binary' op at p (more_of-Expr left end_of-Expr) q (more_of-Expr right end_of-Expr)) vs t is =
+    let there = if_part (is_small_op op) (both (expr_with_ids left vs) (expr_with_ids right vs) (λ a b. Binary op at a b)) t is in
+    let parts = both_parts (expr_with_ids left vs) (expr_with_ids right vs) (λ a b. Binary op at a b) t there.1 in
+    subst (λ (u : Expr). IsSmallExpr u (length vs)) parts.4
+    (subst (λ P. P) (sym (small-Binary op at parts.0 parts.1 (length vs))) (there.0, small left vs parts.0 parts.2, small right vs parts.1 parts.3))
+small _ vs t is = absurd (none-some t is)
 
-short_parts : (low high : Expr) (depth : ℕ) → is_short low high ≡ true → IsNamed low depth × IsNamed high depth × IsShort low high
-short_parts (Number a) (Number b) depth h = (tt, tt, λ m. leb-true (int_gap a b) turn_bound h)
+short_parts : (low high : Expr) (depth : ℕ) → is_short low high ≡ true → IsSmallExpr low depth × IsSmallExpr high depth × IsShort low high
+short_parts (Number a) (Number b) depth h = (tt, tt, λ m. (a, b, refl, refl, leb-true (int_gap a b) turn_bound h))
 short_parts (Number a) high depth h = absurd (false≢true h)
 short_parts low high depth h = absurd (false≢true h)
 
@@ -71,28 +73,30 @@ loop_part : (x : Use) (low high : Expr) (seq : Bool) (at id : ℕ) (o : Option (
 loop_part x low high seq at id None t e = absurd (none-some t e)
 loop_part x low high seq at id (Some body) t e = (body, refl, same_Some _ t (if_part (seq || nat_le (length body) unit_bound) _ t e).1)
 
-loop_formed : (l : Loop) (depth : ℕ) → IsNamed l.low depth × IsNamed l.high depth × IsShort l.low l.high → AreWellFormed l.body (depth + 1) → IsWellFormed (For l) depth
-loop_formed l depth bounds body = subst (λ P. P) (sym (formed-For l depth)) (bounds.0, bounds.1, bounds.2, body)
+loop_formed : (l : Loop) (depth : ℕ) → l.index.id ≡ depth → IsSmallExpr l.low depth × IsSmallExpr l.high depth × IsShort l.low l.high
+    → AreWellFormed l.body (depth + 1) → IsWellFormed (For l) depth
+loop_formed l depth index bounds body = subst (λ P. P) (sym (formed-For l depth)) (index, bounds.0, bounds.1, bounds.2, body)
 
 mutual
   formed : (s : Stmt) (vs : List Visible) (t : Stmt) → stmt_with_ids s vs ≡ Some t → IsWellFormed t (length vs)
   formed (Set x e) vs t is =
       let parts = both_parts (target_with_id x vs) (expr_with_ids e vs) (λ y v. Set y v) t is in
-      subst (λ (u : Stmt). IsWellFormed u (length vs)) parts.4 (target_below x vs parts.0 parts.2, named e vs parts.1 parts.3)
+      subst (λ (u : Stmt). IsWellFormed u (length vs)) parts.4 (target_below x vs parts.0 parts.2, small e vs parts.1 parts.3)
   formed (Fold x f e) vs t is =
       let parts = both_parts (target_with_id x vs) (expr_with_ids e vs) (λ y v. Fold y f v) t is in
-      subst (λ (u : Stmt). IsWellFormed u (length vs)) parts.4 (target_below x vs parts.0 parts.2, named e vs parts.1 parts.3)
+      subst (λ (u : Stmt). IsWellFormed u (length vs)) parts.4 (target_below x vs parts.0 parts.2, small e vs parts.1 parts.3)
   formed (For' x low high s body seq at) vs t is =
       let there = if_part (is_free x.text vs && is_short low high)
       (loop_with_ids x low high seq at (length vs) (row_with_ids body (with_index vs x.text))) t is in
       let part = loop_part x low high seq at (length vs) (row_with_ids body (with_index vs x.text)) t there.1 in
       let short = (and_parts (is_free x.text vs) (is_short low high) there.0).1 in
       subst (λ (u : Stmt). IsWellFormed u (length vs)) part.2
-      (loop_formed (record { index = record x { id = length vs }; low = low; high = high; body = part.0; seq = seq; at = at }) (length vs) (short_parts low high (length vs) short)
+      (loop_formed (record { index = record x { id = length vs }; low = low; high = high; body = part.0; seq = seq; at = at }) (length vs) refl (short_parts low high (length vs) short)
       (subst (λ n. AreWellFormed part.0 n) (length_push vs _) (formed_row body (with_index vs x.text) part.0 part.1)))
   formed (Print e at) vs t is =
       let part = map_part (λ v. Print v at) (expr_with_ids e vs) t is in
-      subst (λ (u : Stmt). IsWellFormed u (length vs)) part.2 (named e vs part.0 part.1)
+      subst (λ (u : Stmt). IsWellFormed u (length vs)) part.2 (small e vs part.0 part.1)
+  formed _ vs t is = absurd (none-some t is)
 
   formed_row : {k : _} (row : Row_of-Stmt k) (vs : List Visible) (ts : List Stmt) → row_with_ids row vs ≡ Some ts → AreWellFormed ts (length vs)
   formed_row end_of-Stmt vs ts is = subst (λ (us : List Stmt). AreWellFormed us (length vs)) (same_Some [] ts is) tt

@@ -5,7 +5,7 @@ use Rattle.nona_tree.specs.declared.trees.Op.{Op}
 use Rattle.nona_tree.specs.declared.trees.Expr.{Expr, Binary}
 use Rattle.nona_tree.specs.declared.trees.Loop.{Loop}
 use Rattle.nona_tree.specs.declared.trees.Stmt.{Stmt, For}
-use Rattle.nona_tree.specs.Names.{Visible, both, is_free, is_short, with_index, unit_bound, loop_with_ids, expr_with_ids, stmt_with_ids, all_with_ids}
+use Rattle.nona_tree.specs.Names.{Visible, both, is_small_op, is_free, is_short, with_index, unit_bound, loop_with_ids, expr_with_ids, stmt_with_ids, all_with_ids}
 use Rattle.nona_tree.proofs.Equations.{ids-Binary, ids-For}
 use Rattle.nona_check.specs.declared.fault.CheckFault.{CheckFault}
 use Rattle.nona_check.specs.declared.fault.CheckFault.TheVariants.{Early, NoMemory}
@@ -18,24 +18,37 @@ refuses_too NoMemory a b none h = tt
 
 -- ---- expressions
 
-pub left_fault : (fault : CheckFault) (op : Op) (at : ℕ) (a b : Expr) (vs : List Visible)
-    → Refuses fault (expr_with_ids a vs) → Refuses fault (expr_with_ids (Binary op at a b) vs)
-left_fault fault op at a b vs =
-    refuses_too fault (expr_with_ids a vs) (expr_with_ids (Binary op at a b) vs)
-    (λ none. ids-Binary op at a b vs ∙ ap (λ (o : Option Expr). both o (expr_with_ids b vs) (λ x y. Binary op at x y)) none)
+-- an operator that is accepted has ids where both sides have
+binary_is : (op : Op) (at : ℕ) (a b : Expr) (vs : List Visible) → is_small_op op ≡ true
+    → expr_with_ids (Binary op at a b) vs ≡ both (expr_with_ids a vs) (expr_with_ids b vs) (λ x y. Binary op at x y)
+binary_is op at a b vs small =
+    ids-Binary op at a b vs
+    ∙ ap (λ t. if t then both (expr_with_ids a vs) (expr_with_ids b vs) (λ x y. Binary op at x y) else None) small
 
-pub right_fault : (fault : CheckFault) (op : Op) (at : ℕ) (a b x : Expr) (vs : List Visible) → expr_with_ids a vs ≡ Some x
+-- and none of the others has
+pub other_operator : (op : Op) (at : ℕ) (a b : Expr) (vs : List Visible) → is_small_op op ≡ false → expr_with_ids (Binary op at a b) vs ≡ None
+other_operator op at a b vs other =
+    ids-Binary op at a b vs
+    ∙ ap (λ t. if t then both (expr_with_ids a vs) (expr_with_ids b vs) (λ x y. Binary op at x y) else None) other
+
+pub left_fault : (fault : CheckFault) (op : Op) (at : ℕ) (a b : Expr) (vs : List Visible) → is_small_op op ≡ true
+    → Refuses fault (expr_with_ids a vs) → Refuses fault (expr_with_ids (Binary op at a b) vs)
+left_fault fault op at a b vs small =
+    refuses_too fault (expr_with_ids a vs) (expr_with_ids (Binary op at a b) vs)
+    (λ none. binary_is op at a b vs small ∙ ap (λ (o : Option Expr). both o (expr_with_ids b vs) (λ x y. Binary op at x y)) none)
+
+pub right_fault : (fault : CheckFault) (op : Op) (at : ℕ) (a b x : Expr) (vs : List Visible) → is_small_op op ≡ true → expr_with_ids a vs ≡ Some x
     → Refuses fault (expr_with_ids b vs) → Refuses fault (expr_with_ids (Binary op at a b) vs)
-right_fault fault op at a b x vs left =
+right_fault fault op at a b x vs small left =
     refuses_too fault (expr_with_ids b vs) (expr_with_ids (Binary op at a b) vs)
-    (λ none. ids-Binary op at a b vs
+    (λ none. binary_is op at a b vs small
     ∙ ap (λ (o : Option Expr). both o (expr_with_ids b vs) (λ x y. Binary op at x y)) left
     ∙ ap (λ (o : Option Expr). both (Some x) o (λ x y. Binary op at x y)) none)
 
-pub both_there : (op : Op) (at : ℕ) (a b x y : Expr) (vs : List Visible) → expr_with_ids a vs ≡ Some x → expr_with_ids b vs ≡ Some y
+pub both_there : (op : Op) (at : ℕ) (a b x y : Expr) (vs : List Visible) → is_small_op op ≡ true → expr_with_ids a vs ≡ Some x → expr_with_ids b vs ≡ Some y
     → expr_with_ids (Binary op at a b) vs ≡ Some (Binary op at x y)
-both_there op at a b x y vs left right =
-    ids-Binary op at a b vs
+both_there op at a b x y vs small left right =
+    binary_is op at a b vs small
     ∙ ap (λ (o : Option Expr). both o (expr_with_ids b vs) (λ x y. Binary op at x y)) left
     ∙ ap (λ (o : Option Expr). both (Some x) o (λ x y. Binary op at x y)) right
 

@@ -1,20 +1,20 @@
 // The names in expressions, and the bounds of loops.
 
 ghost use Rattle.std.specs.Prelude.{◌≡◌, MatchOption, false, true};
-ghost use Rattle.nona_tree.specs.Names.{use_with_id, target_with_id, expr_with_ids, is_short};
+ghost use Rattle.nona_tree.specs.Names.{use_with_id, target_with_id, is_small_op, expr_with_ids, is_short};
 ghost use Rattle.nona_check.specs.Answers.{Answers};
 
 use crate::fault::CheckFault;
 use crate::scope::Scope;
 use nona_num::gap;
-use nona_tree::{Expr, Use};
+use nona_tree::{Expr, Op, Use};
 use sqlite_items::Boxed;
 use std::alloc::Global;
 
-// The most turns of a loop.
+/// The most turns of a loop.
 const TURN_BOUND: u64 = 1_000_000_000;
 
-// A name with its id, where it is visible.
+/// A name with its id, where it is visible.
 fn resolve_use(name: &Use, scope: &Scope) -> Option<Use>
     ensures { result ≡ use_with_id name.now scope.now }
 {
@@ -24,7 +24,7 @@ fn resolve_use(name: &Use, scope: &Scope) -> Option<Use>
     }
 }
 
-// A name that is assigned, with its id, where it is visible and no index.
+/// A name that is assigned, with its id, where it is visible and no index.
 pub fn resolve_target(name: &Use, scope: &Scope) -> Option<Use>
     ensures { result ≡ target_with_id name.now scope.now }
 {
@@ -34,7 +34,17 @@ pub fn resolve_target(name: &Use, scope: &Scope) -> Option<Use>
     resolve_use(name, scope)
 }
 
-// An expression with its ids. `Early`: a name in it isn't visible.
+/// Whether an operator is accepted so far.
+fn is_small(op: Op) -> bool
+    ensures { result ≡ is_small_op op }
+{
+    match op {
+        Op::Add | Op::Sub | Op::Mul => true,
+        _ => false,
+    }
+}
+
+/// An expression with its ids. `Early`: a name in it isn't visible, or a form or an operator isn't accepted yet.
 pub fn resolve_expr(alloc: Global, expr: &Expr, scope: &Scope) -> Result<Expr, CheckFault>
     ensures { Answers result (expr_with_ids expr.now scope.now) }
 {
@@ -50,6 +60,9 @@ pub fn resolve_expr(alloc: Global, expr: &Expr, scope: &Scope) -> Result<Expr, C
             left,
             right,
         } => {
+            if !is_small(*op) {
+                return Err(CheckFault::Early);
+            }
             let left = match resolve_expr(alloc, left.get(), scope) {
                 Ok(left) => left,
                 Err(fault) => return Err(fault),
@@ -65,10 +78,11 @@ pub fn resolve_expr(alloc: Global, expr: &Expr, scope: &Scope) -> Result<Expr, C
                 right: Boxed::new(alloc, right)?,
             })
         }
+        Expr::Cell(_) | Expr::Len(_) | Expr::Neg(_) | Expr::Not(_) => Err(CheckFault::Early),
     }
 }
 
-// Copies of a loop's bounds, where these are numbers that leave it no more turns than it may take.
+/// Copies of a loop's bounds, where these are numbers that leave it no more turns than it may take.
 pub fn short_bounds(low: &Expr, high: &Expr) -> Option<(Expr, Expr)>
     ensures { MatchOption result (is_short low.now high.now ≡ false)
         (λ bounds. (is_short low.now high.now ≡ true) × (bounds.0 ≡ low.now) × (bounds.1 ≡ high.now)) }

@@ -4,7 +4,7 @@
 //! rule.
 #![tactic(auto)]
 
-ghost use Rattle.std.specs.Prelude.{◌≡◌, length, IfOk};
+ghost use Rattle.std.specs.Prelude.{◌≡◌, [], length, IfOk};
 ghost use Rattle.nona_tree.specs.Names.{program_with_ids};
 ghost use Rattle.nona_tree.specs.WellFormed.{AreWellFormed};
 
@@ -21,6 +21,7 @@ use crate::stmts::resolve_all;
 use crate::vars::resolve_vars;
 pub use fault::CheckFault;
 use nona_tree::Program;
+use sqlite_items::Items;
 use std::alloc::Global;
 
 /// The program with the ids of its names, where it breaks no rule on names and loops.
@@ -33,6 +34,8 @@ use std::alloc::Global;
 /// - A name that is assigned, also by a fold, names a visible scalar that isn't an index.
 /// - The bounds of a loop are numbers, and the high one is at most 1,000,000,000 above the low one. It may be below it.
 /// - A loop that isn't `seq` has at most 64 statements at the top of its body.
+/// - So far there are no arrays, the statements are `=`, folds, `for` and `print`, and the operators `+`, `-` and `*`
+///   between two sides.
 ///
 /// `Early` says that the program breaks one of them, and `NoMemory` nothing of the program. Either way the program
 /// that was passed is spent.
@@ -42,14 +45,22 @@ pub fn check(alloc: Global, program: Program) -> Result<Program, CheckFault>
     ensures ids { IfOk result (λ q. program_with_ids program ≡ Some q) }
     ensures early { result ≡ Err CheckFault.Early → program_with_ids program ≡ None }
     ensures formed { IfOk result (λ q. AreWellFormed q.body (length q.vars)) }
+    ensures arrays { IfOk result (λ q. q.arrays ≡ []) }
 {
+    if !program.arrays.is_empty() {
+        return Err(CheckFault::Early);
+    }
     let mut scope = Scope::new(alloc);
     let vars = match resolve_vars(alloc, program.vars.as_slice(), &mut scope) {
         Ok(vars) => vars,
         Err(fault) => return Err(fault),
     };
     match resolve_all(alloc, program.body.as_slice(), &mut scope) {
-        Ok(body) => Ok(Program { vars, body }),
+        Ok(body) => Ok(Program {
+            arrays: Items::new(alloc),
+            vars,
+            body,
+        }),
         Err(fault) => Err(fault),
     }
 }

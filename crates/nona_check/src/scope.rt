@@ -7,21 +7,21 @@ use std::alloc::{AllocError, Global};
 use std::collections::BTreeMap;
 use std::marker::Model;
 
-// What a scope knows of a visible name.
+/// What a scope knows of a visible name.
 #[derive(Clone, Copy, Debug)]
 struct Known {
     id: u32,
     index: bool,
 }
 
-// A declared scalar.
+/// A declared scalar.
 #[derive(Debug, Drop)]
 struct Declared {
     name: Name,
     index: bool,
 }
 
-// The visible scalars, in order of declaration. Each step takes a time logarithmic in their number.
+/// The visible scalars, in order of declaration. Each step takes a time logarithmic in their number.
 #[derive(Drop)]
 pub struct Scope {
     known: BTreeMap<Vec<u8>, Known>,
@@ -41,7 +41,7 @@ impl Model for Scope {
 }
 
 impl Scope {
-    // A scope where nothing is visible.
+    /// A scope where nothing is visible.
     pub fn new(alloc: Global) -> Scope
         ensures { result ≡ [] }
     {
@@ -51,21 +51,21 @@ impl Scope {
         }
     }
 
-    // How many scalars are visible: the id of the next one.
+    /// How many scalars are visible: the id of the next one.
     pub fn count(&self) -> u32
         ensures { result ≡ length self.now }
     {
         self.declared.len() as u32
     }
 
-    // What is known of a name, where it is visible.
+    /// What is known of a name, where it is visible.
     fn look_up(&self, name: &Name) -> Option<Known>
         ensures { result ≡ known_of name.now self.now }
     {
         self.known.get(name.as_slice()).copied()
     }
 
-    // The id of a name, where it is visible.
+    /// The id of a name, where it is visible.
     pub fn find(&self, name: &Name) -> Option<u32>
         ensures { result ≡ id_of name.now self.now }
     {
@@ -75,7 +75,7 @@ impl Scope {
         }
     }
 
-    // Whether a name is that of a visible index.
+    /// Whether a name is that of a visible index.
     pub fn is_index(&self, name: &Name) -> bool
         ensures { result ≡ is_index name.now self.now }
     {
@@ -85,14 +85,14 @@ impl Scope {
         }
     }
 
-    // Whether a name may be declared.
+    /// Whether a name may be declared.
     pub fn is_free(&self, name: &Name) -> bool
         ensures { result ≡ is_free name.now self.now }
     {
         name.as_slice() != b"input".as_slice() && self.find(name).is_none()
     }
 
-    // Makes one more scalar visible. After an error the scope is as before.
+    /// Makes one more scalar visible. After an error the scope is as before.
     pub fn declare(&mut self, alloc: Global, name: &Name, index: bool) -> Result<(), AllocError>
         requires { IsTrue (is_free name.now self.old) }
         ensures ok { OnOk result (self.new ≡ self.old ++ record { name = name.now; index = index } ∷ []) }
@@ -116,7 +116,7 @@ impl Scope {
         }
     }
 
-    // Makes the newest scalar invisible, where there is one.
+    /// Makes the newest scalar invisible, where there is one.
     pub fn leave(&mut self)
         ensures { (outer : List Visible) (v : Visible) → self.old ≡ outer ++ v ∷ [] → self.new ≡ outer }
     {

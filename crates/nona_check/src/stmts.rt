@@ -12,17 +12,18 @@ use nona_tree::{Loop, Stmt};
 use sqlite_items::Items;
 use std::alloc::Global;
 
-// The most statements at the top of a loop's body.
+/// The most statements at the top of a loop's body.
 const UNIT_BOUND: usize = 64;
 
-// Whether a loop may have this body.
+/// Whether a loop may have this body.
 fn fits_loop(seq: bool, body: &Items<Stmt>) -> bool
     ensures { result ≡ (seq || nat_le (length body.now) unit_bound) }
 {
     seq || body.len() <= UNIT_BOUND
 }
 
-// A statement with its ids. `Early`: it breaks a rule on names or loops. The scope is as before, unless there is a fault.
+/// A statement with its ids. `Early`: it breaks a rule on names or loops, or its form isn't accepted yet. The scope is as
+/// before, unless there is a fault.
 #[cycle(stmt)]
 fn resolve_stmt(alloc: Global, stmt: &Stmt, scope: &mut Scope) -> Result<Stmt, CheckFault>
     ensures answers { Answers result (stmt_with_ids stmt.now scope.old) }
@@ -56,10 +57,15 @@ fn resolve_stmt(alloc: Global, stmt: &Stmt, scope: &mut Scope) -> Result<Stmt, C
             Ok(value) => Ok(Stmt::Print { value, at: *at }),
             Err(fault) => Err(fault),
         },
+        Stmt::Let { .. }
+        | Stmt::Put { .. }
+        | Stmt::FoldPut { .. }
+        | Stmt::If { .. }
+        | Stmt::While { .. } => Err(CheckFault::Early),
     }
 }
 
-// A loop with its ids. `Early`: it breaks a rule on names or loops. The scope is as before, unless there is a fault.
+/// A loop with its ids. `Early`: it breaks a rule on names or loops. The scope is as before, unless there is a fault.
 #[cycle(stmt)]
 fn resolve_loop(alloc: Global, l: &Loop, scope: &mut Scope) -> Result<Stmt, CheckFault>
     ensures answers { Answers result (stmt_with_ids (For l.now) scope.old) }
@@ -91,7 +97,7 @@ fn resolve_loop(alloc: Global, l: &Loop, scope: &mut Scope) -> Result<Stmt, Chec
     }))
 }
 
-// Statements with their ids. `Early`: one breaks a rule on names or loops. The scope is as before, unless there is a fault.
+/// Statements with their ids. `Early`: one breaks a rule on names or loops. The scope is as before, unless there is a fault.
 #[cycle(stmt)]
 pub fn resolve_all(
     alloc: Global,

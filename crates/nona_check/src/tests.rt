@@ -85,6 +85,7 @@ fn program(alloc: Global, letters: &[u8], lines: &[Line]) -> Result<Program, All
         body.push(stmt_of(alloc, *line)?)?;
     }
     Ok(Program {
+        arrays: Items::new(alloc),
         vars: vars_of(alloc, letters)?,
         body,
     })
@@ -100,6 +101,7 @@ fn loop_fault(alloc: Global, l: Stmt) -> Result<Option<CheckFault>, AllocError> 
     let mut body = Items::new(alloc);
     body.push(l)?;
     let program = Program {
+        arrays: Items::new(alloc),
         vars: vars_of(alloc, b"x".as_slice())?,
         body,
     };

@@ -11,7 +11,7 @@ use nona_tree::VarDecl;
 use sqlite_items::Items;
 use std::alloc::Global;
 
-// A variable with its id, which is visible from now on. `Early`: it may not be declared.
+/// A variable with its id, which is visible from now on. `Early`: it may not be declared.
 fn resolve_var(alloc: Global, var: &VarDecl, scope: &mut Scope) -> Result<VarDecl, CheckFault>
     ensures answers { Answers result (var_with_id var.now scope.old) }
     ensures declared { OnOk result (scope.new ≡ scope.old ++ variable var.now ∷ []) }
@@ -27,7 +27,7 @@ fn resolve_var(alloc: Global, var: &VarDecl, scope: &mut Scope) -> Result<VarDec
     })
 }
 
-// Variables with their ids, all visible from now on. `Early`: one may not be declared.
+/// Variables with their ids, all visible from now on. `Early`: one may not be declared.
 pub fn resolve_vars(
     alloc: Global,
     vars: &[VarDecl],

@@ -47,20 +47,33 @@ calmer : (m : ℕ) (ss : List Spot) → Calm (suc m) ss → Calm m ss
 calmer m [] c = tt
 calmer m (x ∷ ss) c = calmer_token m x.token c
 
--- the token of an operator is that operator's
-pub op_back : (o : Op) → op_of (written o) ≡ Some o
-op_back op.Add = refl
-op_back op.Sub = refl
-op_back op.Mul = refl
+-- the token of an operator that has a level is that operator's
+pub op_back : (m : ℕ) (o : Op) → level o ≡ suc m → op_of (written o) ≡ Some o
+op_back m op.Add is = refl
+op_back m op.Sub is = refl
+op_back m op.Mul is = refl
+op_back m op.Div is = absurd (omega (arith, is))
+op_back m op.Rem is = absurd (omega (arith, is))
+op_back m op.And is = absurd (omega (arith, is))
+op_back m op.Or is = absurd (omega (arith, is))
+op_back m op.Xor is = absurd (omega (arith, is))
+op_back m op.Shl is = absurd (omega (arith, is))
+op_back m op.Shr is = absurd (omega (arith, is))
+op_back m op.Eq is = absurd (omega (arith, is))
+op_back m op.Ne is = absurd (omega (arith, is))
+op_back m op.Lt is = absurd (omega (arith, is))
+op_back m op.Le is = absurd (omega (arith, is))
+op_back m op.Gt is = absurd (omega (arith, is))
+op_back m op.Ge is = absurd (omega (arith, is))
 
 -- an operator is calm for its own level
-calm_joining : (m : ℕ) (o : Op) → level o ≡ m → CalmOp m (op_of (written o))
-calm_joining m o is = subst (λ x. CalmOp m x) (sym (op_back o)) (let le : m ≤ level o = omega (arith, is) in le)
+calm_joining : (m : ℕ) (o : Op) → level o ≡ suc m → CalmOp (suc m) (op_of (written o))
+calm_joining m o is = subst (λ x. CalmOp (suc m) x) (sym (op_back m o is)) (let le : suc m ≤ level o = omega (arith, is) in le)
 
 -- a tail takes each operator of its level
 tail_some : (m : ℕ) (o : Op) (at : ℕ) → level o ≡ suc m → joins m (op_of (written o)) at ≡ Some (Level m ∷ Do (Join o at) ∷ Tail m ∷ [])
 tail_some m o at is =
-    ap (λ x. joins m x at) (op_back o) ∙ ap (λ b. choice b (Some (Level m ∷ Do (Join o at) ∷ Tail m ∷ [])) None) (eq-eqb (level o) (suc m) is)
+    ap (λ x. joins m x at) (op_back m o is) ∙ ap (λ b. choice b (Some (Level m ∷ Do (Join o at) ∷ Tail m ∷ [])) None) (eq-eqb (level o) (suc m) is)
 
 -- an operator isn't taken at a level below its own
 other_level : (m n : ℕ) (x : Option (List Sym)) → suc n ≤ m → choice (eqb m n) x None ≡ None
@@ -111,7 +124,7 @@ mutual
   level_built (lower-is m ss rest e d) end k v c =
       level_is end m k v ss ∙ level_built d end (Tail m ∷ k) v (calmer m rest c) ∙ closes end m (Tail m ∷ k) (push e v) rest c
   level_built (joined-is m o at ss mid rest a b is d1 d2) end k v c =
-      level_built d1 end k v (calm_joining (suc m) o is)
+      level_built d1 end k v (calm_joining m o is)
       ∙ took end (Tail m) k (push a v) (joining o at) mid (Level m ∷ Do (Join o at) ∷ Tail m ∷ []) (tail_some m o at is)
       ∙ level_built d2 end (Do (Join o at) ∷ Tail m ∷ k) (push a v) (calmer m rest c)
       ∙ closes end m (Do (Join o at) ∷ Tail m ∷ k) (push b (push a v)) rest c

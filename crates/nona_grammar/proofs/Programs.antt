@@ -9,6 +9,7 @@ use Rattle.nona_lex.specs.declared.tokens.Token.TheVariants as token
 use Rattle.nona_lex.specs.declared.tokens.Spot.{Spot}
 use Rattle.nona_tree.specs.declared.trees.Expr.TheVariants as expr
 use Rattle.nona_tree.specs.declared.trees.Stmt.{Stmt}
+use Rattle.nona_tree.specs.declared.trees.ArrayDecl.{ArrayDecl}
 use Rattle.nona_tree.specs.declared.trees.VarDecl.{VarDecl}
 use Rattle.nona_tree.specs.declared.trees.Program.{Program}
 use Rattle.nona_grammar.specs.Levels.{sign, named}
@@ -117,7 +118,7 @@ decls_built (var-value-is n m a b c d e ss rest vs i) end k v =
 
 -- each program is read to its trees
 pub program_complete : (end : ℕ) (ss : List Spot) (p : Program) → IsProgram ss p → build end (Decls ∷ Stmts ∷ []) empty ss ≡ Ok (whole_of p)
-program_complete end ss p (mid, ds, is) =
+program_complete end ss p (bare, mid, ds, is) =
     decls_built ds end (Stmts ∷ []) empty ∙ past_decls is refl end (Stmts ∷ []) (declared p.vars empty) ∙ stmts_built is end [] (declared p.vars empty)
 
 -- what is read is a program, and the trees are its trees
@@ -127,11 +128,11 @@ program_sound end ss out h = by_meaning (all_sound end ss out (Decls ∷ Stmts �
   where
     by_meaning : AllMean (Decls ∷ Stmts ∷ []) empty ss (Ends out) → (p : Program) × IsProgram ss p × (out ≡ whole_of p)
     by_meaning (vs, mid, ds, (l, rest, is, (none, same))) =
-        (record { vars = vs; body = l }, (mid, ds, subst (λ (ts : List Spot). IsStmts mid ts l) none is), sym same)
+        (record { arrays = []; vars = vs; body = l }, (refl, mid, ds, subst (λ (ts : List Spot). IsStmts mid ts l) none is), sym same)
 
 -- the program of the trees at the end
 program_of : Trees → Program
-program_of out = record { vars = out.vars; body = first_of out.blocks }
+program_of out = record { arrays = []; vars = out.vars; body = first_of out.blocks }
   where
     first_of : List (List Stmt) → List Stmt
     first_of [] = []
@@ -141,8 +142,14 @@ program_of out = record { vars = out.vars; body = first_of out.blocks }
 same_ok : {A B : Type 0} (r : Result A B) (x y : A) → r ≡ Ok x → r ≡ Ok y → x ≡ y
 same_ok r x y e f = cc
 
+-- a program without arrays is that of its trees
+program_back : (p : Program) → p.arrays ≡ [] → program_of (whole_of p) ≡ p
+unfolding program_of
+program_back p bare = ap (λ (l : List ArrayDecl). let q : Program = record p { arrays = l } in q) (sym bare)
+
 -- both programs are what the machine makes of the tokens
 pub one_tree : (ss : List Spot) (p q : Program) → IsProgram ss p → IsProgram ss q → p ≡ q
-unfolding program_of
 one_tree ss p q a b =
-    ap program_of (same_ok (build 0 (Decls ∷ Stmts ∷ []) empty ss) (whole_of p) (whole_of q) (program_complete 0 ss p a) (program_complete 0 ss q b))
+    sym (program_back p a.0)
+    ∙ ap program_of (same_ok (build 0 (Decls ∷ Stmts ∷ []) empty ss) (whole_of p) (whole_of q) (program_complete 0 ss p a) (program_complete 0 ss q b))
+    ∙ program_back q b.0

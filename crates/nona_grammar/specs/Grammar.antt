@@ -68,6 +68,6 @@ pub data IsDecls : List Spot → List Spot → List VarDecl → Type 0 where
   var-value-is : (n : List ℕ) (m : ℤ) (a b c d e : ℕ) (ss rest : List Spot) (vars : List VarDecl) → IsDecls ss rest vars
       → IsDecls (word w.Var a ∷ name n b ∷ sign s.Set c ∷ number m d ∷ sign s.Semicolon e ∷ ss) rest (record { name = named n b; value = m } ∷ vars)
 
--- program := decl* stmt*
+-- program := decl* stmt*, where so far no declaration is an array's
 abbrev pub IsProgram : List Spot → Program → Type 0
-IsProgram ss p = (mid : List Spot) × IsDecls ss mid p.vars × IsStmts mid [] p.body
+IsProgram ss p = (p.arrays ≡ []) × (mid : List Spot) × IsDecls ss mid p.vars × IsStmts mid [] p.body

@@ -37,8 +37,21 @@ abbrev pub written : Op → Operator
 written op.Add = operator.Add
 written op.Sub = operator.Sub
 written op.Mul = operator.Mul
+written op.Div = operator.Div
+written op.Rem = operator.Rem
+written op.And = operator.And
+written op.Or = operator.Or
+written op.Xor = operator.Xor
+written op.Shl = operator.Shl
+written op.Shr = operator.Shr
+written op.Eq = operator.Eq
+written op.Ne = operator.Ne
+written op.Lt = operator.Lt
+written op.Le = operator.Le
+written op.Gt = operator.Gt
+written op.Ge = operator.Ge
 
--- the binary operator that a token is, where it is one of the language's
+-- the binary operator that a token is, where the grammar has it so far: those of products and sums
 abbrev pub op_of : Operator → Option Op
 op_of operator.Add = Some op.Add
 op_of operator.Sub = Some op.Sub
@@ -48,11 +61,12 @@ op_of _ = None
 abbrev pub joining : Op → ℕ → Spot
 joining o at = spot (token.Operator (written o)) at
 
--- the level of a binary operator: the lower, the tighter it binds
+-- the level of a binary operator: the lower, the tighter it binds; 0, where none is joined, for those that the grammar doesn't have yet
 abbrev pub level : Op → ℕ
 level op.Mul = 1
 level op.Add = 2
 level op.Sub = 2
+level _ = 0
 
 -- the loosest level
 abbrev pub loosest : ℕ

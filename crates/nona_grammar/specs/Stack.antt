@@ -75,6 +75,6 @@ act (Var d) v = record v { vars = v.vars ++ d ∷ [] }
 abbrev pub empty : Trees
 empty = record { exprs = []; blocks = [] ∷ []; vars = [] }
 
--- a whole program was read
+-- a whole program was read, which has no arrays
 abbrev pub whole_of : Program → Trees
 whole_of p = record { exprs = []; blocks = p.body ∷ []; vars = p.vars }

@@ -14,7 +14,7 @@ use std::alloc::Global;
 /// The loosest level of operators.
 const LOOSEST: u8 = 2;
 
-/// The binary operator that a token is, where it is one of the language's.
+/// The binary operator that a token is, where the grammar has it so far.
 fn binary_operator(written: Operator) -> Option<Op>
     ensures { result ≡ op_of written }
 {
@@ -26,13 +26,15 @@ fn binary_operator(written: Operator) -> Option<Op>
     }
 }
 
-/// The level of an operator: the lower, the tighter it binds.
+/// The level of an operator: the lower, the tighter it binds. Those that the grammar doesn't have yet are of none, and
+/// have 0 here.
 fn level_of(op: Op) -> u8
     ensures { result ≡ level op }
 {
     match op {
         Op::Mul => 1,
         Op::Add | Op::Sub => 2,
+        _ => 0,
     }
 }
 

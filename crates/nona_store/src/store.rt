@@ -1,16 +1,24 @@
-ghost use Rattle.std.specs.Prelude.{◌≡◌, ◌<◌, ◌≤◌, ◌-◌, length, OnOk, OnErr, IfOk};
-ghost use Rattle.nona_tree.specs.Memory.{scalar_at, declare, assign, print, cut_to};
-ghost use Rattle.nona_tree.specs.Run.{start_of};
+ghost use Rattle.std.specs.Prelude.{◌≡◌, ◌<◌, ◌≤◌, ◌-◌, ◌^◌, [], length, map, replicate, pos, OnOk, OnErr, IfOk};
+ghost use Rattle.nona_store.specs.Arrays.{with_array, AreSized, IsSized};
+ghost use Rattle.nona_tree.specs.Memory.{scalar_at, cells_of, cell_at, declare, assign, put_cell, print, cut_to};
+ghost use Rattle.nona_tree.specs.Run.{start_of, start_arrays, count_of};
+ghost use Rattle.nona_tree.specs.declared.trees.VarDecl.{VarDecl};
 
-use nona_tree::Program;
+use crate::cells::Cells;
+use nona_tree::{ArrayDecl, Program, VarDecl};
 use std::alloc::{AllocError, Global};
 use std::marker::Model;
+use std::mem;
 
-/// What a program computes on: the visible scalars in order of declaration, and the printed numbers. Contracts see it
-/// as these two lists.
+/// What a program computes on: the visible scalars in order of declaration, the cells of each array, and the printed
+/// numbers. Contracts see it as these three lists.
+///
+/// An array is named by its id: 0 is the input, and the declared arrays follow in text order. Each call takes constant
+/// time but for `start` and `copy`.
 #[derive(Debug, Drop)]
 pub struct Store {
     scalars: Vec<i64>,
+    arrays: Vec<Cells>,
     printed: Vec<i64>,
 }
 
@@ -19,21 +27,85 @@ impl Model for Store {
 
     ghost Value = { Memory };
 
-    ghost view = { λ s. record { scalars = s.scalars.items; printed = s.printed.items } };
+    ghost view = { λ s. record { scalars = s.scalars.items; arrays = s.arrays.items; printed = s.printed.items } };
+}
+
+// The declared values of variables.
+fn declared_values(alloc: Global, vars: &[VarDecl]) -> Result<Vec<i64>, AllocError>
+    ensures { IfOk result (λ scalars. scalars.items ≡ map (λ (d : VarDecl). d.value) vars.now) }
+{
+    let mut scalars = Vec::new(alloc);
+    for declared in vars {
+        scalars.push(declared.value)?;
+    }
+    Ok(scalars)
+}
+
+// A declared array, with all cells 0.
+fn declared_cells(alloc: Global, declared: &ArrayDecl) -> Result<Cells, AllocError>
+    requires { IsSized declared.now }
+    ensures { IfOk result (λ cells. cells ≡ replicate (count_of declared.now.cells) (pos 0)) }
+{
+    Cells::zeros(alloc, declared.cells as usize)
+}
+
+// The input's cells, and behind them the declared arrays with all cells 0.
+fn first_arrays(
+    alloc: Global,
+    declared: &[ArrayDecl],
+    input: Cells,
+) -> Result<Vec<Cells>, AllocError>
+    requires { AreSized declared.now }
+    ensures { IfOk result (λ arrays. arrays.items ≡ start_arrays declared.now input) }
+{
+    let mut arrays = Vec::new(alloc);
+    arrays.push(input)?;
+    for array in declared {
+        arrays.push(declared_cells(alloc, array)?)?;
+    }
+    Ok(arrays)
+}
+
+// The cells of each array again.
+fn copied_arrays(alloc: Global, arrays: &[Cells]) -> Result<Vec<Cells>, AllocError>
+    ensures { IfOk result (λ copies. copies.items ≡ arrays.now) }
+{
+    let mut copies = Vec::new(alloc);
+    for cells in arrays {
+        copies.push(cells.copy(alloc)?)?;
+    }
+    Ok(copies)
 }
 
 impl Store {
-    /// The store before a program's first statement: its variables with their declared values, and nothing printed.
-    pub fn start(alloc: Global, program: &Program) -> Result<Store, AllocError>
-        ensures { IfOk result (λ store. store ≡ start_of program.now) }
+    /// The store before a program's first statement: its variables with their declared values, the input's numbers as
+    /// array 0, its arrays with all cells 0, and nothing printed. The input has at most 1,048,576 numbers, and each
+    /// declared array from 1 to 4,194,304 cells.
+    pub fn start(alloc: Global, program: &Program, input: Vec<i64>) -> Result<Store, AllocError>
+        requires input { length input.items ≤ 2 ^ 20 }
+        requires arrays { AreSized program.now.arrays }
+        ensures { IfOk result (λ store. store ≡ start_of program.now input.items) }
     {
-        let mut scalars = Vec::new(alloc);
-        for declared in program.vars.as_slice() {
-            scalars.push(declared.value)?;
-        }
+        let scalars = declared_values(alloc, program.vars.as_slice())?;
+        let arrays = first_arrays(alloc, program.arrays.as_slice(), Cells::of(input))?;
         Ok(Store {
             scalars,
+            arrays,
             printed: Vec::new(alloc),
+        })
+    }
+
+    /// A store that equals this one and shares nothing with it.
+    pub fn copy(&self, alloc: Global) -> Result<Store, AllocError>
+        ensures { IfOk result (λ store. store ≡ self.now) }
+    {
+        let scalars = Vec::from_slice(alloc, self.scalars.as_slice())?;
+        let arrays = copied_arrays(alloc, self.arrays.as_slice())?;
+        let printed = Vec::from_slice(alloc, self.printed.as_slice())?;
+        Ok(Store {
+            scalars,
+            arrays,
+            printed,
         })
     }
 
@@ -76,6 +148,68 @@ impl Store {
     {
         let left = self.scalars.len() - count;
         self.scalars.truncate(left);
+    }
+
+    /// How many arrays there are, the input with them.
+    pub fn count_arrays(&self) -> usize
+        ensures { result ≡ length self.now.arrays }
+    {
+        self.arrays.len()
+    }
+
+    /// How many cells the array with this id, which is there, has: at most 4,194,304.
+    pub fn length(&self, array: u32) -> usize
+        requires { array < length self.now.arrays }
+        ensures value { result ≡ length (cells_of self.now array) }
+        ensures small { result ≤ 2 ^ 22 }
+    {
+        self.arrays[array as usize].len()
+    }
+
+    /// The value of an array's cell; both are there.
+    pub fn cell(&self, array: u32, index: usize) -> i64
+        requires array { array < length self.now.arrays }
+        requires cell { index < length (cells_of self.now array) }
+        ensures { result ≡ cell_at self.now array index }
+    {
+        self.arrays[array as usize].get(index)
+    }
+
+    /// Gives an array's cell a value; both are there. Nothing else changes.
+    pub fn put_cell(&mut self, array: u32, index: usize, value: i64)
+        requires array { array < length self.old.arrays }
+        requires cell { index < length (cells_of self.old array) }
+        ensures { self.new ≡ put_cell array index value self.old }
+    {
+        let cells = &mut self.arrays[array as usize];
+        cells.put(index, value);
+    }
+
+    /// The values of the cells, in order, of the array with this id, which is there.
+    pub fn cells(&self, array: u32) -> &[i64]
+        requires { array < length self.now.arrays }
+        ensures { result.now ≡ cells_of self.now array }
+    {
+        self.arrays[array as usize].as_slice()
+    }
+
+    /// Moves the cells out of the array with this id, which is there, and leaves it without cells. Nothing else
+    /// changes, and no memory is taken. `give_array` moves them back.
+    pub fn take_array(&mut self, array: u32) -> Cells
+        requires { array < length self.old.arrays }
+        ensures cells { result ≡ cells_of self.old array }
+        ensures store { self.new ≡ with_array array [] self.old }
+    {
+        let none = Cells::none(*self.scalars.allocator());
+        mem::replace(&mut self.arrays[array as usize], none)
+    }
+
+    /// Moves cells into the array with this id, which is there; the cells that it had go. Nothing else changes.
+    pub fn give_array(&mut self, array: u32, cells: Cells)
+        requires { array < length self.old.arrays }
+        ensures { self.new ≡ with_array array cells self.old }
+    {
+        self.arrays[array as usize] = cells;
     }
 
     /// Prints a number behind the others. Where memory runs out the store is unchanged.

@@ -1,1 +1,17 @@
 pub mod Equations
+pub mod Keeps
+pub mod Depth
+pub mod Turns
+pub mod I64
+pub mod Small
+pub mod EntryLaws
+pub mod DeedLaws
+pub mod Regions
+pub mod BesideEquations
+pub mod FromFirst
+pub mod Seen
+pub mod Unfaulted
+pub mod CheckEquations
+pub mod Overwritten
+pub mod FirstFault
+pub mod CellsFit

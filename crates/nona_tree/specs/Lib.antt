@@ -1,5 +1,15 @@
 pub mod Memory
 pub mod Value
 pub mod Run
+pub mod Scope
+pub mod Numbers
 pub mod Names
 pub mod WellFormed
+pub mod Seen
+pub mod Faults
+pub mod Ids
+pub mod Smallness
+pub mod Checking
+pub mod Beside
+pub mod Entries
+pub mod Deeds

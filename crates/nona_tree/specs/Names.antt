@@ -1,13 +1,16 @@
--- The ids of names, and the rules on names and loops.
-use Rattle.std.specs.Prelude.{ℕ, ◌+◌, Bool, true, false, not, ◌&&◌, ◌||◌, if◌then◌else◌, nat_le, List, [], ◌∷◌, ◌++◌, length, map, None, Some, is_some, option_map, codes, position}
+-- The ids of names, and the rules on names and loops, for the forms that are accepted so far: a program that has any
+-- other breaks them.
+use Rattle.std.specs.Prelude.{ℕ, Bool, true, false, not, ◌&&◌, ◌||◌, if◌then◌else◌, nat_le, List, [], ◌∷◌, ◌++◌, length, map, None, Some, is_some, option_map, codes, position}
 use Rattle.std.specs.declared.option.Option.{Option}
-use Rattle.std.specs.Option.{option_and_then}
 use Rattle.std.specs.List.{list_any}
 use Rattle.std.specs.Str.{bytes_eq}
 use Rattle.std.specs.Int.{int_gap}
 use Rattle.nona_tree.specs.declared.names.Use.{Use}
+use Rattle.nona_tree.specs.declared.trees.Op.{Op}
+use Rattle.nona_tree.specs.declared.trees.Op.TheVariants as op
 use Rattle.nona_tree.specs.declared.trees.Expr.{Expr, Number, Scalar, Binary', Binary, more_of-Expr, end_of-Expr}
 use Rattle.nona_tree.specs.declared.trees.Stmt.{Stmt, Set, Fold, For', For, Print, Row_of-Stmt, end_of-Stmt, more_of-Stmt}
+use Rattle.nona_tree.specs.declared.trees.ArrayDecl.{ArrayDecl}
 use Rattle.nona_tree.specs.declared.trees.VarDecl.{VarDecl}
 use Rattle.nona_tree.specs.declared.trees.Program.{Program}
 
@@ -42,12 +45,21 @@ use_with_id x visible = option_map (λ id. record x { id = id }) (id_of x.text v
 abbrev pub target_with_id : Use → List Visible → Option Use
 target_with_id x visible = if is_index x.text visible then None else use_with_id x visible
 
+-- whether an operator is accepted so far
+abbrev pub is_small_op : Op → Bool
+is_small_op op.Add = true
+is_small_op op.Sub = true
+is_small_op op.Mul = true
+is_small_op _ = false
+
 -- an expression with its ids, where each name in it is visible
 abbrev pub expr_with_ids : Expr → List Visible → Option Expr
 expr_with_ids (Number v) visible = Some (Number v)
 expr_with_ids (Scalar x) visible = option_map Scalar (use_with_id x visible)
 expr_with_ids (Binary' op at p (more_of-Expr left end_of-Expr) q (more_of-Expr right end_of-Expr)) visible =
-    both (expr_with_ids left visible) (expr_with_ids right visible) (λ a b. Binary op at a b)
+    if is_small_op op then both (expr_with_ids left visible) (expr_with_ids right visible) (λ a b. Binary op at a b)
+    else None
+expr_with_ids _ visible = None
 
 -- the most turns of a loop
 abbrev pub turn_bound : ℕ
@@ -84,6 +96,7 @@ abbrev mutual
       loop_with_ids x low high seq at (length visible) (row_with_ids body (with_index visible x.text))
       else None
   stmt_with_ids (Print e at) visible = option_map (λ v. Print v at) (expr_with_ids e visible)
+  stmt_with_ids _ visible = None
 
   pub row_with_ids : {k : _} → Row_of-Stmt k → List Visible → Option (List Stmt)
   row_with_ids end_of-Stmt visible = Some []
@@ -108,7 +121,12 @@ vars_with_ids (d ∷ rest) visible =
 abbrev pub variables : List VarDecl → List Visible
 variables vars = map (λ (d : VarDecl). record { name = d.name.text; index = false }) vars
 
+-- a program that declares these arrays, with its ids: so far there are none
+abbrev pub with_arrays : List ArrayDecl → Option Program → Option Program
+with_arrays [] p = p
+with_arrays (d ∷ rest) p = None
+
 -- a program with its ids, where it breaks no rule on names and loops
 abbrev pub program_with_ids : Program → Option Program
 program_with_ids p =
-    both (vars_with_ids p.vars []) (all_with_ids p.body (variables p.vars)) (λ vars body. record { vars = vars; body = body })
+    with_arrays p.arrays (both (vars_with_ids p.vars []) (all_with_ids p.body (variables p.vars)) (λ vars body. record { arrays = []; vars = vars; body = body }))

@@ -61,8 +61,9 @@ pub struct Use {
     pub text: Name,
     /// The place of its first byte, from 0.
     pub at: u32,
-    /// What it names: 0 until names are resolved, and then the number of the scalars that are visible where the one
-    /// that it names is declared.
+    /// What it names: 0 until names are resolved. Then it is for a scalar the number of the scalars that are visible
+    /// where that one is declared. For an array it is 0 for the input, and the declared arrays follow from 1 in text
+    /// order.
     pub id: u32,
 }
 
@@ -85,5 +86,12 @@ impl Use {
             at: self.at,
             id,
         }
+    }
+
+    /// An equal name in the same place, with the same id. Takes no memory.
+    pub fn copy(&self) -> Use
+        ensures { result ≡ self.now }
+    {
+        self.with_id(self.id)
     }
 }

@@ -1,1 +1,4 @@
-pub mod Turns
+pub mod Parts
+pub mod Runs
+pub mod Counts
+pub mod Sized

@@ -1,15 +1,19 @@
 //! Runs programs in one thread, statement by statement over their trees.
 //!
-//! What a run leaves is what the sequential meaning says. The store is changed in place. A statement takes constant
-//! time for each node of its tree, and a turn of a loop constant time beside its body. Memory grows with the printed
-//! numbers and the nesting of loops, and not with their turns.
+//! What a run leaves and how it ends is what the sequential meaning says, after traps and where a loop is out of turns
+//! too. The store is changed in place. A statement takes constant time for each node of its tree, and a turn of a loop
+//! constant time beside its body. Memory grows with the printed numbers, the nesting of blocks and the scalars that
+//! are visible, and not with turns. `specs/` names where a run has come to (`Reached`).
 #![tactic(auto)]
 
+mod program;
+mod steps;
 mod values;
 mod walk;
 
+pub use program::{Ended, run_checked, run_program, run_small};
 pub use values::value;
-pub use walk::{run_program, walk_all};
+pub use walk::walk_all;
 
 #[cfg(test)]
 mod tests;

@@ -1,110 +1,204 @@
 //! Small programs, with what they leave reckoned by hand.
 
-ghost use Rattle.std.specs.Prelude.{IsTrue, ◌+◌, ◌<◌, ◌^◌};
-ghost use Rattle.nona_tree.specs.WellFormed.{IsNamed, IsShort, IsWellFormed, AreWellFormed};
+ghost use Rattle.std.specs.Prelude.{◌≡◌, ◌<◌, ◌≤◌, ◌+◌, ◌^◌, [], IsTrue, IfOk, length};
+ghost use Rattle.nona_store.specs.Arrays.{AreSized};
+ghost use Rattle.nona_tree.specs.Scope.{IsNamed, IsCellNamed, IsScoped, AreScoped, depth_after};
+ghost use Rattle.nona_tree.specs.WellFormed.{AreWellFormed};
 
-use crate::{run_program, value, walk_all};
-use nona_num::{Fold, gap};
+use crate::{Ended, run_checked, run_program, run_small, value, walk_all};
+use nona_num::Fold;
 use nona_store::Store;
-use nona_tree::{Expr, Loop, Name, Op, Program, Stmt, Use, VarDecl};
+use nona_tree::{
+    Access, ArrayDecl, Checked, Expr, Loop, Name, Op, Outcome, Program, Stmt, Trap, TrapKind, Use,
+    VarDecl,
+};
 use sqlite_items::{Boxed, Items};
 use std::alloc::{AllocError, Global};
 use std::process::Abort;
 use std::test::Fail;
 
-/// The most turns of a loop.
-const TURNS: u64 = 1_000_000_000;
+/// The place of each array's name, each operator, each `for` and each `while`.
+const ARRAY: u32 = 40;
 
-/// Whether an expression names scalars below `depth` alone.
-fn is_named(e: &Expr, depth: usize) -> bool
-    ensures { IsTrue result → IsNamed e.now depth }
+const OPERATOR: u32 = 90;
+
+const FOR: u32 = 50;
+
+const WHILE: u32 = 60;
+
+/// Whether an expression names scalars below `depth` and arrays below `arrays` alone.
+fn is_named(e: &Expr, depth: usize, arrays: usize) -> bool
+    ensures { IsTrue result → IsNamed e.now depth arrays }
 {
     match e {
         Expr::Number(_) => true,
         Expr::Scalar(x) => (x.id as usize) < depth,
+        Expr::Cell(boxed) => {
+            let access = boxed.get();
+            (access.array.id as usize) < arrays && is_named(&access.index, depth, arrays)
+        }
+        Expr::Len(array) => (array.id as usize) < arrays,
+        Expr::Neg(part) => is_named(part.get(), depth, arrays),
+        Expr::Not(part) => is_named(part.get(), depth, arrays),
         Expr::Binary {
             op: _,
             at: _,
             left,
             right,
-        } => is_named(left.get(), depth) && is_named(right.get(), depth),
+        } => is_named(left.get(), depth, arrays) && is_named(right.get(), depth, arrays),
     }
 }
 
-/// Whether two bounds are numbers that leave a loop no more turns than it may take.
-fn is_short(low: &Expr, high: &Expr) -> bool
-    ensures { IsTrue result → IsShort low.now high.now }
+/// The same of an access.
+fn is_cell_named(access: &Access, depth: usize, arrays: usize) -> bool
+    ensures { IsTrue result → IsCellNamed access.now depth arrays }
 {
-    match (low, high) {
-        (Expr::Number(a), Expr::Number(b)) => gap(*a, *b) <= TURNS,
-        _ => false,
-    }
+    (access.array.id as usize) < arrays && is_named(&access.index, depth, arrays)
 }
 
-/// Whether a loop's bounds are well-formed where `depth` scalars are visible, of which its body may have one more.
-fn is_bounded(l: &Loop, depth: usize) -> bool
-    ensures low { IsTrue result → IsNamed l.now.low depth }
-    ensures high { IsTrue result → IsNamed l.now.high depth }
-    ensures short { IsTrue result → IsShort l.now.low l.now.high }
+/// The same of the bounds of a loop, whose index is the next scalar.
+fn is_bounded(l: &Loop, depth: usize, arrays: usize) -> bool
+    ensures index { IsTrue result → l.now.index.id ≡ depth }
+    ensures low { IsTrue result → IsNamed l.now.low depth arrays }
+    ensures high { IsTrue result → IsNamed l.now.high depth arrays }
     ensures room { IsTrue result → depth + 1 < 2 ^ 64 }
 {
-    if depth == usize::MAX || !is_named(&l.low, depth) || !is_named(&l.high, depth) {
+    if depth == usize::MAX || l.index.id as usize != depth {
         return false;
     }
-    is_short(&l.low, &l.high)
+    is_named(&l.low, depth, arrays) && is_named(&l.high, depth, arrays)
 }
 
-/// Whether a statement is well-formed where `depth` scalars are visible.
-#[cycle(formed)]
-fn is_formed(statement: &Stmt, depth: usize) -> bool
-    ensures { IsTrue result → IsWellFormed statement.now depth }
+/// Whether a statement has all that it names where `depth` scalars are visible.
+#[cycle(scoped)]
+fn is_scoped(statement: &Stmt, depth: usize, arrays: usize) -> bool
+    ensures { IsTrue result → IsScoped statement.now depth arrays }
 {
     match statement {
-        Stmt::Set { name, value } => (name.id as usize) < depth && is_named(value, depth),
+        Stmt::Let { name, value } => name.id as usize == depth && is_named(value, depth, arrays),
+        Stmt::Set { name, value } => (name.id as usize) < depth && is_named(value, depth, arrays),
         Stmt::Fold {
             name,
             fold: _,
             value,
-        } => (name.id as usize) < depth && is_named(value, depth),
-        Stmt::For(l) => is_bounded(l, depth) && are_formed(l.body.as_slice(), depth + 1),
-        Stmt::Print { value, at: _ } => is_named(value, depth),
+        } => (name.id as usize) < depth && is_named(value, depth, arrays),
+        Stmt::Put { place, value } => {
+            is_cell_named(place, depth, arrays) && is_named(value, depth, arrays)
+        }
+        Stmt::FoldPut {
+            place,
+            fold: _,
+            value,
+        } => is_cell_named(place, depth, arrays) && is_named(value, depth, arrays),
+        Stmt::If { test, yes, no } => {
+            if is_named(test, depth, arrays) {
+                are_scoped(yes.as_slice(), depth, arrays)
+                    && are_scoped(no.as_slice(), depth, arrays)
+            } else {
+                false
+            }
+        }
+        Stmt::While { test, body, at: _ } => {
+            is_named(test, depth, arrays) && are_scoped(body.as_slice(), depth, arrays)
+        }
+        Stmt::For(l) => {
+            is_bounded(l, depth, arrays) && are_scoped(l.body.as_slice(), depth + 1, arrays)
+        }
+        Stmt::Print { value, at: _ } => is_named(value, depth, arrays),
     }
 }
 
-/// Whether all statements are well-formed where `depth` scalars are visible.
-#[cycle(formed)]
-fn are_formed(body: &[Stmt], depth: usize) -> bool
-    ensures { IsTrue result → AreWellFormed body.now depth }
+/// How many scalars are visible after a statement.
+fn after(statement: &Stmt, depth: usize) -> usize
+    requires { depth + 1 < 2 ^ 64 }
+    ensures { result ≡ depth_after statement.now depth }
 {
+    match statement {
+        Stmt::Let { name: _, value: _ } => depth + 1,
+        _ => depth,
+    }
+}
+
+/// Whether all statements have what they name where `depth` scalars are visible before the first, and few scalars are.
+#[cycle(scoped)]
+fn are_scoped(body: &[Stmt], depth: usize, arrays: usize) -> bool
+    ensures { IsTrue result → AreScoped body.now depth arrays }
+{
+    let mut visible = depth;
     for statement in body {
-        if !is_formed(statement, depth) {
+        if visible > 99 || !is_scoped(statement, visible, arrays) {
             return false;
         }
+        visible = after(statement, visible);
     }
     true
 }
 
-/// The scalar with this id. A run doesn't read its text.
-fn named(id: u32) -> Use {
-    Use::new(Name::of(b"x".as_slice()), 0).with_id(id)
+/// A name with this id. A run doesn't read its text.
+fn named(id: u32, at: u32) -> Use
+    ensures { result.id ≡ id }
+{
+    Use::new(Name::of(b"x".as_slice()), at).with_id(id)
 }
 
 fn scalar(id: u32) -> Expr {
-    Expr::Scalar(named(id))
+    Expr::Scalar(named(id, 0))
 }
 
 fn binary(alloc: Global, op: Op, left: Expr, right: Expr) -> Result<Expr, AllocError> {
     Ok(Expr::Binary {
         op,
-        at: 0,
+        at: OPERATOR,
         left: Boxed::new(alloc, left)?,
         right: Boxed::new(alloc, right)?,
     })
 }
 
+/// A cell of the input, whose id is 0, or of the declared array, whose id is 1.
+fn access(array: u32, wrap: bool, index: Expr) -> Access {
+    Access {
+        array: named(array, ARRAY),
+        wrap,
+        index,
+    }
+}
+
+fn cell(alloc: Global, array: u32, wrap: bool, index: Expr) -> Result<Expr, AllocError> {
+    Ok(Expr::Cell(Boxed::new(alloc, access(array, wrap, index))?))
+}
+
+fn declare(id: u32, value: Expr) -> Stmt {
+    Stmt::Let {
+        name: named(id, 0),
+        value,
+    }
+}
+
+fn set(id: u32, value: Expr) -> Stmt {
+    Stmt::Set {
+        name: named(id, 0),
+        value,
+    }
+}
+
 fn fold(id: u32, fold: Fold, value: Expr) -> Stmt {
     Stmt::Fold {
-        name: named(id),
+        name: named(id, 0),
+        fold,
+        value,
+    }
+}
+
+fn put(wrap: bool, index: Expr, value: Expr) -> Stmt {
+    Stmt::Put {
+        place: access(1, wrap, index),
+        value,
+    }
+}
+
+fn fold_put(wrap: bool, index: Expr, fold: Fold, value: Expr) -> Stmt {
+    Stmt::FoldPut {
+        place: access(1, wrap, index),
         fold,
         value,
     }
@@ -114,15 +208,23 @@ fn print(value: Expr) -> Stmt {
     Stmt::Print { value, at: 0 }
 }
 
-/// A loop over the numbers from `low` up to, without, `high`; its index has this id.
-fn loop_over(index: u32, low: i64, high: i64, body: Items<Stmt>) -> Stmt {
+fn while_loop(test: Expr, body: Items<Stmt>) -> Stmt {
+    Stmt::While {
+        test,
+        body,
+        at: WHILE,
+    }
+}
+
+/// A loop over the numbers from 0 up to, without, `high`; its index has this id.
+fn for_loop(index: u32, high: Expr, body: Items<Stmt>) -> Stmt {
     Stmt::For(Loop {
-        index: named(index),
-        low: Expr::Number(low),
-        high: Expr::Number(high),
+        index: named(index, 0),
+        low: Expr::Number(0),
+        high,
         body,
         seq: true,
-        at: 0,
+        at: FOR,
     })
 }
 
@@ -133,141 +235,317 @@ fn body_of<const N: usize>(
     Ok(Items::from_vec(Vec::from_array(alloc, statements)?))
 }
 
-fn program_of(alloc: Global, vars: &[i64], body: Items<Stmt>) -> Result<Program, AllocError> {
+/// A program with these variables, and an array with so many cells.
+fn program_of(
+    alloc: Global,
+    vars: &[i64],
+    cells: u32,
+    body: Items<Stmt>,
+) -> Result<Program, AllocError>
+    requires some_cells { 0 < cells }
+    requires few_cells { cells ≤ 2 ^ 22 }
+    ensures { IfOk result (λ p. AreSized p.arrays) }
+{
     let mut declared = Items::new(alloc);
     for value in vars {
         declared.push(VarDecl {
-            name: named(0),
+            name: named(0, 0),
             value: *value,
         })?;
     }
+    let array = ArrayDecl {
+        name: named(1, 0),
+        cells: cells as i64,
+        cells_at: 0,
+    };
     Ok(Program {
+        arrays: Items::from_vec(vec![in alloc; array]?),
         vars: declared,
         body,
     })
 }
 
-/// Runs a program with these variables and statements, and compares what it prints.
-fn expect_printed(
+/// Runs a program with these variables, such an array and these statements over an input.
+fn run(
     rt: &impl Abort,
     alloc: Global,
     vars: &[i64],
+    cells: u32,
+    input: &[i64],
+    turns: u64,
     body: Items<Stmt>,
-    want: &[i64],
-) -> Result<(), Fail> {
-    let program = program_of(alloc, vars, body)?;
-    assert!(rt; are_formed(program.body.as_slice(), program.vars.len()));
-    let store = run_program(alloc, &program, TURNS)?;
-    assert_eq!(rt; store.printed(), want);
-    Ok(())
+) -> Result<Ended, AllocError>
+    requires some_cells { 0 < cells }
+    requires few_cells { cells ≤ 2 ^ 22 }
+{
+    let program = program_of(alloc, vars, cells, body)?;
+    let numbers = Vec::from_slice(alloc, input)?;
+    assert!(rt; numbers.len() <= 1_048_576);
+    assert!(rt; program.arrays.len() < 9);
+    assert!(rt;
+        are_scoped(
+            program.body.as_slice(),
+            program.vars.len(),
+            program.arrays.len() + 1
+        )
+    );
+    run_program(alloc, &program, numbers, turns)
+}
+
+/// Compares what a run left: how it ended, its scalars, of which there are at most four, the cells of its array and
+/// what it printed.
+fn expect(
+    rt: &impl Abort,
+    ended: &Ended,
+    outcome: Outcome,
+    scalars: &[i64],
+    cells: &[i64],
+    printed: &[i64],
+) {
+    let store = &ended.store;
+    assert_eq!(rt; ended.outcome, outcome);
+    assert_eq!(rt; store.depth(), scalars.len());
+    for id in 0..4u32 {
+        if let Some(want) = scalars.get(id as usize) {
+            assert!(rt; (id as usize) < store.depth());
+            assert_eq!(rt; store.scalar(id), *want);
+        }
+    }
+    assert!(rt; 1 < store.count_arrays());
+    assert_eq!(rt; store.cells(1), cells);
+    assert_eq!(rt; store.printed(), printed);
+}
+
+fn trap(kind: TrapKind, at: u32) -> Outcome {
+    Outcome::Trap(Trap { kind, at })
 }
 
 #[test]
-fn values_wrap(rt: HostRuntime) -> Result<(), Fail> {
+fn operators_wrap_and_divide(rt: HostRuntime) -> Result<(), Fail> {
     let alloc = rt.alloc();
-    let six = binary(alloc, Op::Mul, Expr::Number(2), Expr::Number(3))?;
-    let above = binary(alloc, Op::Add, Expr::Number(i64::MAX), Expr::Number(1))?;
-    let below = binary(alloc, Op::Sub, Expr::Number(i64::MIN), Expr::Number(1))?;
-    let body = body_of(
-        alloc,
-        [
-            print(binary(alloc, Op::Sub, six, Expr::Number(10))?),
-            print(above),
-            print(below),
-        ],
-    )?;
-    expect_printed(&rt, alloc, &[], body, &[-4, i64::MIN, i64::MAX])
-}
-
-#[test]
-fn folds_join_the_old_value(rt: HostRuntime) -> Result<(), Fail> {
-    let alloc = rt.alloc();
+    let program = program_of(alloc, &[], 1, Items::new(alloc))?;
+    let store = Store::start(alloc, &program, Vec::new(alloc))?;
+    let by_zero = Err(Trap {
+        kind: TrapKind::Divide,
+        at: OPERATOR,
+    });
     let cases = [
-        (Fold::Add, 10, 22),
-        (Fold::Mul, 10, 120),
-        (Fold::And, 10, 8),
-        (Fold::Or, 10, 14),
-        (Fold::Xor, 10, 6),
-        (Fold::Min, 10, 10),
-        (Fold::Min, 15, 12),
-        (Fold::Max, 10, 12),
-        (Fold::Max, 15, 15),
+        (Op::Add, i64::MAX, 1, Ok(i64::MIN)),
+        (Op::Sub, 2, 5, Ok(-3)),
+        (Op::Div, -7, 2, Ok(-3)),
+        (Op::Rem, -7, 2, Ok(-1)),
+        (Op::Div, i64::MIN, -1, Ok(i64::MIN)),
+        (Op::Rem, i64::MIN, -1, Ok(0)),
+        (Op::Div, 7, 0, by_zero),
+        (Op::Rem, 7, 0, by_zero),
+        (Op::Shl, 1, 65, Ok(2)),
+        (Op::Shr, -5, 1, Ok(-3)),
+        (Op::Xor, 12, 10, Ok(6)),
+        (Op::Lt, -1, 0, Ok(1)),
+        (Op::Ge, -1, 0, Ok(0)),
     ];
-    for (join, with, want) in cases {
-        let body = body_of(alloc, [fold(0, join, Expr::Number(with)), print(scalar(0))])?;
-        expect_printed(&rt, alloc, &[12], body, &[want])?;
+    for (op, left, right, want) in cases {
+        let e = binary(alloc, op, Expr::Number(left), Expr::Number(right))?;
+        assert!(rt; is_named(&e, store.depth(), store.count_arrays()));
+        assert_eq!(rt; value(&e, &store), want);
     }
     Ok(())
 }
 
 #[test]
-fn loops_print_their_indices(rt: HostRuntime) -> Result<(), Fail> {
+fn an_index_beyond_the_cells_traps(rt: HostRuntime) -> Result<(), Fail> {
     let alloc = rt.alloc();
-    let cases = [
-        (0, 3, [0, 1, 2].as_slice()),
-        (-2, 1, [-2, -1, 0].as_slice()),
-        (
-            i64::MAX - 2,
-            i64::MAX,
-            [i64::MAX - 2, i64::MAX - 1].as_slice(),
-        ),
-        (5, 5, [].as_slice()),
-        (5, 2, [].as_slice()),
-        (i64::MAX, i64::MIN, [].as_slice()),
-    ];
-    for (low, high, want) in cases {
-        let inner = body_of(alloc, [print(scalar(0))])?;
-        let body = body_of(alloc, [loop_over(0, low, high, inner)])?;
-        expect_printed(&rt, alloc, &[], body, want)?;
-    }
+    let fill = body_of(alloc, [put(false, scalar(1), scalar(1))])?;
+    let filling = [print(Expr::Number(3)), for_loop(1, Expr::Number(10), fill)];
+    let ended = run(&rt, alloc, &[8], 7, &[], 100, body_of(alloc, filling)?)?;
+    let end = trap(TrapKind::Index, ARRAY);
+    expect(&rt, &ended, end, &[8], &[0, 1, 2, 3, 4, 5, 6], &[3]);
+    let far = binary(alloc, Op::Mul, scalar(0), Expr::Number(4_294_967_296))?;
+    let far = body_of(alloc, [put(false, far, Expr::Number(1))])?;
+    let striding = body_of(alloc, [for_loop(0, Expr::Number(2), far)])?;
+    let ended = run(&rt, alloc, &[], 4, &[], 100, striding)?;
+    expect(&rt, &ended, end, &[], &[1, 0, 0, 0], &[]);
+    let divided = binary(alloc, Op::Div, Expr::Number(1), Expr::Number(0))?;
+    let both = body_of(alloc, [put(false, Expr::Number(-1), divided)])?;
+    let ended = run(&rt, alloc, &[], 1, &[], 100, both)?;
+    expect(&rt, &ended, end, &[], &[0], &[]);
     Ok(())
 }
 
 #[test]
-fn loops_nest(rt: HostRuntime) -> Result<(), Fail> {
+fn an_index_wraps_unless_there_is_no_cell(rt: HostRuntime) -> Result<(), Fail> {
     let alloc = rt.alloc();
-    let count = body_of(alloc, [fold(0, Fold::Add, Expr::Number(1))])?;
-    let rows = body_of(alloc, [loop_over(2, 0, 4, count)])?;
-    let products = body_of(
-        alloc,
-        [print(binary(alloc, Op::Mul, scalar(1), scalar(2))?)],
-    )?;
-    let table = body_of(alloc, [loop_over(2, 3, 5, products)])?;
-    let body = body_of(
-        alloc,
-        [
-            loop_over(1, 0, 3, rows),
-            print(scalar(0)),
-            loop_over(1, 1, 3, table),
-        ],
-    )?;
-    expect_printed(&rt, alloc, &[0], body, &[12, 3, 4, 6, 8])
+    let input = cell(alloc, 0, true, scalar(1))?;
+    let sum = body_of(alloc, [fold(0, Fold::Add, input)])?;
+    let summing = body_of(alloc, [for_loop(1, Expr::Number(3), sum)])?;
+    let ended = run(&rt, alloc, &[0], 1, &[], 100, summing)?;
+    expect(&rt, &ended, trap(TrapKind::Empty, ARRAY), &[0], &[0], &[]);
+    let backward = [
+        fold_put(true, Expr::Number(-1), Fold::Or, Expr::Number(6)),
+        put(true, Expr::Number(-5), Expr::Number(9)),
+        fold_put(true, Expr::Number(-3), Fold::Add, Expr::Number(5)),
+        fold_put(false, Expr::Number(0), Fold::Max, Expr::Number(3)),
+        fold_put(true, Expr::Number(9), Fold::Mul, Expr::Number(4)),
+        print(Expr::Len(named(1, 0))),
+        print(Expr::Len(named(0, 0))),
+    ];
+    let ended = run(&rt, alloc, &[], 3, &[7, 7], 100, body_of(alloc, backward)?)?;
+    expect(&rt, &ended, Outcome::Done, &[], &[20, 9, 6], &[3, 2]);
+    Ok(())
 }
 
 #[test]
-fn an_index_is_gone_after_its_loop(rt: HostRuntime) -> Result<(), Fail> {
+fn a_histogram(rt: HostRuntime) -> Result<(), Fail> {
     let alloc = rt.alloc();
-    let sum = body_of(alloc, [fold(0, Fold::Add, scalar(2))])?;
-    let doubled = binary(alloc, Op::Add, scalar(0), scalar(0))?;
-    let body = body_of(
+    let square = binary(alloc, Op::Mul, scalar(2), scalar(2))?;
+    let count = [
+        declare(2, cell(alloc, 0, false, scalar(1))?),
+        declare(3, binary(alloc, Op::Add, square, Expr::Number(1))?),
+        fold_put(true, scalar(3), Fold::Add, Expr::Number(1)),
+        print(scalar(3)),
+        fold(0, Fold::Add, scalar(3)),
+    ];
+    let all = for_loop(1, Expr::Len(named(0, 0)), body_of(alloc, count)?);
+    let input = [1, 2, 3, 4, 5, 6];
+    let ended = run(&rt, alloc, &[0], 8, &input, 6, body_of(alloc, [all])?)?;
+    let counts = [0, 1, 3, 0, 0, 2, 0, 0];
+    let printed = [2, 5, 10, 17, 26, 37];
+    expect(&rt, &ended, Outcome::Done, &[97], &counts, &printed);
+    Ok(())
+}
+
+#[test]
+fn loops_end_out_of_turns(rt: HostRuntime) -> Result<(), Fail> {
+    let alloc = rt.alloc();
+    let sum = body_of(alloc, [fold(0, Fold::Add, scalar(1))])?;
+    let summing = body_of(alloc, [for_loop(1, Expr::Number(8), sum)])?;
+    let ended = run(&rt, alloc, &[0], 1, &[], 5, summing)?;
+    expect(
+        &rt,
+        &ended,
+        Outcome::OutOfTurns { at: FOR },
+        &[10],
+        &[0],
+        &[],
+    );
+    let endless = [declare(2, Expr::Number(1)), fold(0, Fold::Add, scalar(2))];
+    let endless = while_loop(Expr::Number(-1), body_of(alloc, endless)?);
+    let around = body_of(
         alloc,
-        [
-            loop_over(2, 0, 10, sum),
-            Stmt::Set {
-                name: named(1),
-                value: doubled,
-            },
-        ],
+        [for_loop(1, Expr::Number(3), body_of(alloc, [endless])?)],
     )?;
-    let program = program_of(alloc, &[0, 7], body)?;
-    let mut store = Store::start(alloc, &program)?;
-    assert!(rt; are_formed(program.body.as_slice(), store.depth()));
-    walk_all(program.body.as_slice(), TURNS, &mut store)?;
-    assert_eq!(rt; store.depth(), 2);
-    let sum = scalar(0);
-    assert!(rt; is_named(&sum, store.depth()));
-    assert_eq!(rt; value(&sum, &store), 45);
-    assert_eq!(rt; store.scalar(1), 90);
-    assert_eq!(rt; store.printed(), [].as_slice());
+    let ended = run(&rt, alloc, &[0], 1, &[], 4, around)?;
+    expect(
+        &rt,
+        &ended,
+        Outcome::OutOfTurns { at: WHILE },
+        &[4],
+        &[0],
+        &[],
+    );
+    let down = [
+        print(scalar(0)),
+        set(0, binary(alloc, Op::Sub, scalar(0), Expr::Number(1))?),
+    ];
+    let counting = body_of(alloc, [while_loop(scalar(0), body_of(alloc, down)?)])?;
+    let ended = run(&rt, alloc, &[5], 1, &[], 5, counting)?;
+    expect(&rt, &ended, Outcome::Done, &[0], &[0], &[5, 4, 3, 2, 1]);
+    Ok(())
+}
+
+#[test]
+fn a_trap_leaves_all_blocks(rt: HostRuntime) -> Result<(), Fail> {
+    let alloc = rt.alloc();
+    let less = binary(alloc, Op::Sub, scalar(2), Expr::Number(1))?;
+    let divide = [
+        declare(4, binary(alloc, Op::Div, Expr::Number(7), less)?),
+        print(scalar(4)),
+    ];
+    let choice = Stmt::If {
+        test: binary(alloc, Op::Eq, scalar(1), Expr::Number(1))?,
+        yes: body_of(alloc, divide)?,
+        no: body_of(alloc, [print(scalar(2))])?,
+    };
+    let inner = body_of(alloc, [declare(3, scalar(1)), choice])?;
+    let outer = body_of(alloc, [for_loop(2, Expr::Number(3), inner)])?;
+    let all = body_of(alloc, [for_loop(1, Expr::Number(3), outer)])?;
+    let ended = run(&rt, alloc, &[4], 1, &[], 100, all)?;
+    expect(
+        &rt,
+        &ended,
+        trap(TrapKind::Divide, OPERATOR),
+        &[4],
+        &[0],
+        &[0, 1, 2, -7],
+    );
+    Ok(())
+}
+
+#[test]
+fn bounds_are_taken_once(rt: HostRuntime) -> Result<(), Fail> {
+    let alloc = rt.alloc();
+    let more = body_of(alloc, [fold(0, Fold::Add, Expr::Number(2))])?;
+    let body = body_of(alloc, [for_loop(1, scalar(0), more)])?;
+    let program = program_of(alloc, &[3], 1, body)?;
+    let mut store = Store::start(alloc, &program, Vec::new(alloc))?;
+    assert!(rt; are_scoped(program.body.as_slice(), store.depth(), store.count_arrays()));
+    let outcome = walk_all(program.body.as_slice(), 100, &mut store)?;
+    expect(
+        &rt,
+        &Ended { outcome, store },
+        Outcome::Done,
+        &[9],
+        &[0],
+        &[],
+    );
+    Ok(())
+}
+
+/// `var x = 4; x += 3; print x;`
+fn small(alloc: Global) -> Result<Program, AllocError>
+    ensures formed { IfOk result (λ p. AreWellFormed p.body (length p.vars)) }
+    ensures arrays { IfOk result (λ p. p.arrays ≡ []) }
+{
+    let declared = VarDecl {
+        name: named(0, 0),
+        value: 4,
+    };
+    let more = Stmt::Fold {
+        name: named(0, 0),
+        fold: Fold::Add,
+        value: Expr::Number(3),
+    };
+    let last = Stmt::Print {
+        value: Expr::Scalar(named(0, 0)),
+        at: 0,
+    };
+    Ok(Program {
+        arrays: Items::new(alloc),
+        vars: Items::from_vec(vec![in alloc; declared]?),
+        body: Items::from_vec(vec![in alloc; more, last]?),
+    })
+}
+
+#[test]
+fn a_small_program_is_done(rt: HostRuntime) -> Result<(), Fail> {
+    let alloc = rt.alloc();
+    let program = small(alloc)?;
+    let store = run_small(alloc, &program, 1_000_000_000)?;
+    assert_eq!(rt; store.printed(), [7].as_slice());
+    assert_eq!(rt; store.depth(), 1);
+    Ok(())
+}
+
+#[test]
+fn a_checked_program_runs(rt: HostRuntime) -> Result<(), Fail> {
+    let alloc = rt.alloc();
+    let checked = Checked::of(Program {
+        arrays: Items::new(alloc),
+        vars: Items::new(alloc),
+        body: Items::new(alloc),
+    });
+    let ended = run_checked(alloc, &checked, Vec::new(alloc), 1)?;
+    assert_eq!(rt; ended.outcome, Outcome::Done);
+    assert_eq!(rt; ended.store.printed(), [].as_slice());
     Ok(())
 }

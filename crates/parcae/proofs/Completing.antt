@@ -19,14 +19,14 @@ use Rattle.parcae.specs.Answers.{Looked, Answers, IsComplete}
 text_done : (text : List ℕ) (tree : Program) (sent : Sent) (told : Told) (printed behind : List ℕ)
     → ((a b : Program) → IsAccepted text a → IsAccepted text b → a ≡ b) → IsAccepted text tree
     → DueOfText text told printed behind → Appends sent.before sent.after (printed ++ behind)
-    → (told ≡ finished (meaning_of tree turn_bound).store)
-    × Appends sent.before sent.after (number_lines (meaning_of tree turn_bound).store.printed)
+    → (told ≡ finished (meaning_of tree [] turn_bound).store)
+    × Appends sent.before sent.after (number_lines (meaning_of tree [] turn_bound).store.printed)
 text_done text tree sent told printed behind one accepted (refused none t p b) h = absurd (none tree accepted)
 text_done text tree sent told printed behind one accepted (ran other m is e t p b) h =
     let same : other ≡ tree = one other tree is accepted in
-    let store : m ≡ (meaning_of tree turn_bound).store =
-    ap (λ (r : Ran). r.store) (sym e) ∙ ap (λ (q : Program). (meaning_of q turn_bound).store) same in
-    let lines : printed ++ behind ≡ number_lines (meaning_of tree turn_bound).store.printed =
+    let store : m ≡ (meaning_of tree [] turn_bound).store =
+    ap (λ (r : Ran). r.store) (sym e) ∙ ap (λ (q : Program). (meaning_of q [] turn_bound).store) same in
+    let lines : printed ++ behind ≡ number_lines (meaning_of tree [] turn_bound).store.printed =
     ap (λ (l : List ℕ). l ++ behind) p ∙ ap (λ (l : List ℕ). number_lines m.printed ++ l) b
     ∙ append-nil (number_lines m.printed) ∙ ap (λ (x : Memory). number_lines x.printed) store in
     (t ∙ ap finished store, subst (λ (l : List ℕ). Appends sent.before sent.after l) lines h)
@@ -38,8 +38,8 @@ file_done : (held : Option (Option (List ℕ))) (name text : List ℕ) (tree : P
     → held ≡ Some (Some text) → length text ≤ program_limit → IsAccepted text tree → before ≡ before ++ added
     → DueOfFile source.Program program_limit held name DueOfProgram added told printed behind
     → Appends sent.before sent.after (printed ++ behind)
-    → (told ≡ finished (meaning_of tree turn_bound).store)
-    × Appends sent.before sent.after (number_lines (meaning_of tree turn_bound).store.printed)
+    → (told ≡ finished (meaning_of tree [] turn_bound).store)
+    × Appends sent.before sent.after (number_lines (meaning_of tree [] turn_bound).store.printed)
 file_done None name text tree added before sent told printed behind one holds le accepted same d h = cc
 file_done (Some None) name text tree added before sent told printed behind one holds le accepted same d h = cc
 file_done (Some (Some held)) name text tree added before sent told printed behind one holds le accepted same (read bytes content d) h =

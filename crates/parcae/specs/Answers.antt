@@ -1,5 +1,5 @@
 -- What a whole call does.
-use Rattle.std.specs.Prelude.{◌≡◌, ◌≢◌, ℕ, ◌≤◌, List, ◌++◌, length, Some}
+use Rattle.std.specs.Prelude.{◌≡◌, ◌≢◌, ℕ, ◌≤◌, List, [], ◌++◌, length, Some}
 use Rattle.std.specs.declared.option.Option.{Option}
 use Rattle.std.specs.Io.KnownBytes.{Appends}
 use Rattle.fate_io.specs.Causes.{Rose}
@@ -32,5 +32,5 @@ IsComplete command looked sent told =
     (file text : List ℕ) (tree : Program) → command ≡ Some (seq file)
     → looked.held file ≡ Some (Some text) → length text ≤ program_limit → IsAccepted text tree
     → looked.failed ≡ looked.failed_before → ¬ (Rose sent.faults_before sent.faults) → told.status ≢ NoMemory
-    → (told ≡ finished (meaning_of tree turn_bound).store)
-    × Appends sent.before sent.after (number_lines (meaning_of tree turn_bound).store.printed)
+    → (told ≡ finished (meaning_of tree [] turn_bound).store)
+    × Appends sent.before sent.after (number_lines (meaning_of tree [] turn_bound).store.printed)

@@ -31,7 +31,7 @@ program_limit = 2 ^ 20
 
 -- a program's text, run: its sequential meaning's numbers, or its refusal
 pub data DueOfText (text : List ℕ) (told : Told) (printed behind : List ℕ) : Type 0 where
-  ran : (tree : Program) (m : Memory) → IsAccepted text tree → meaning_of tree turn_bound ≡ done m
+  ran : (tree : Program) (m : Memory) → IsAccepted text tree → meaning_of tree [] turn_bound ≡ done m
       → told ≡ finished m → printed ≡ number_lines m.printed → behind ≡ [] → DueOfText text told printed behind
   refused : ((tree : Program) → IsAccepted text tree → ⊥)
       → told ≡ bare status.Refused → printed ≡ [] → behind ≡ early_line → DueOfText text told printed behind

@@ -1,8 +1,8 @@
 -- A report as plain values.
 use Rattle.std.specs.Prelude.{◌≡◌, None, Some}
 use Rattle.std.specs.declared.option.Option.{Option}
-use Rattle.nona_tree.specs.declared.trees.Outcome.{Outcome}
-use Rattle.nona_tree.specs.declared.trees.Outcome.TheVariants as outcome
+use Rattle.nona_tree.specs.declared.outcomes.Outcome.{Outcome}
+use Rattle.nona_tree.specs.declared.outcomes.Outcome.TheVariants as outcome
 use Rattle.nona_tree.specs.Memory.{Memory}
 use Rattle.parcae.specs.declared.report.Status.{Status}
 use Rattle.parcae.specs.declared.report.Status.TheVariants as status

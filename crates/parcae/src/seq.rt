@@ -1,4 +1,4 @@
-ghost use Rattle.std.specs.Prelude.{◌≡◌, ◌≤◌, ◌^◌, ℕ, List, length, IfOk, Err, Some};
+ghost use Rattle.std.specs.Prelude.{◌≡◌, ◌≤◌, ◌^◌, ℕ, List, [], length, IfOk, Err, Some};
 ghost use Rattle.nona_tree.specs.declared.trees.Program.{Program};
 ghost use Rattle.nona_tree.specs.WellFormed.{AreWellFormed};
 ghost use Rattle.parcae.specs.Told.{told_of};
@@ -14,7 +14,7 @@ use fate_io::{Shelf, ShelfFault, Sink, send};
 use nona_check::{CheckFault, check};
 use nona_parse::{ParseFault, parse, reads_one_tree};
 use nona_tree::Program;
-use nona_walk::run_program;
+use nona_walk::run_small;
 use std::alloc::Global;
 
 /// The most bytes of a program's text.
@@ -36,6 +36,7 @@ fn accept(alloc: Global, text: &[u8]) -> Result<Program, Refusal>
     requires { length text.now ≤ 2 ^ 20 }
     ensures accepted { IfOk result (λ tree. IsAccepted text.now tree) }
     ensures formed { IfOk result (λ tree. AreWellFormed tree.body (length tree.vars)) }
+    ensures arrays { IfOk result (λ tree. tree.arrays ≡ []) }
     ensures early { result ≡ Err Refusal.Early → (tree : Program) → IsAccepted text.now tree → ⊥ }
 {
     reads_one_tree();
@@ -52,11 +53,12 @@ fn accept(alloc: Global, text: &[u8]) -> Result<Program, Refusal>
 
 /// Runs the tree of an accepted program, and sends its numbers.
 fn run_tree<K: Sink>(alloc: Global, tree: &Program, out: &mut K) -> Report
-    requires { AreWellFormed tree.now.body (length tree.now.vars) }
+    requires formed { AreWellFormed tree.now.body (length tree.now.vars) }
+    requires arrays { tree.now.arrays ≡ [] }
     ensures { (text : List ℕ) → IsAccepted text tree.now
         → Ends (DueOfText text) (record { before = K.written out.old; after = K.written out.new; faults_before = K.faults out.old; faults = K.faults out.new }) (told_of result) }
 {
-    match run_program(alloc, tree, TURN_BOUND) {
+    match run_small(alloc, tree, TURN_BOUND) {
         Ok(store) => {
             let sent = send_numbers(alloc, store.printed(), out);
             end_of(sent, finished(store))

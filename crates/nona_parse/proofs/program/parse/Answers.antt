@@ -13,6 +13,6 @@ returns-clause-early c = λ e p a.
     let fault = c.without_place.ensures early in
     let end = length c.args.text.now in
     let spots : c.as_slice.result.now ≡ (tokens_of c.args.text.now).spots = c.as_slice.ensures ∙ ap (λ (t : Tokens). t.spots) c.in-Ok.ensures.exact in
-    let stuck : build end (Decls ∷ Stmts ∷ []) empty c.as_slice.result.now ≡ Err fault.0 = subst (λ f. IsStuck f end c.as_slice.result.now) fault.1 c.in-Err.ensures in
+    let stuck : build end (Decls ∷ Stmts ∷ []) empty c.as_slice.result.now ≡ Err fault.0 = subst (λ f. IsStuck f end c.as_slice.result.now) fault.1 c.in-Err.ensures.built in
     let built : build end (Decls ∷ Stmts ∷ []) empty (tokens_of c.args.text.now).spots ≡ Ok (whole_of p) = c.grammar_is_read.ensures.complete end (tokens_of c.args.text.now).spots p a.1 in
     absurd (cc)

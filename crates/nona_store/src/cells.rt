@@ -1,0 +1,87 @@
+ghost use Rattle.std.specs.Prelude.{◌≡◌, ◌<◌, ◌≤◌, ◌^◌, [], pos, length, replicate, slice_set, slice_index_or, IfOk};
+
+use std::alloc::{AllocError, Global};
+use std::marker::Model;
+
+/// The cells of an array, at most 4,194,304. Contracts see them as their list.
+#[derive(Debug, Drop)]
+pub struct Cells {
+    items: Vec<i64>,
+}
+
+impl Model for Cells {
+    ghost use Rattle.std.specs.Prelude.{List, ℤ, length, ◌≤◌, ◌^◌};
+
+    ghost Value = { List ℤ };
+
+    ghost view = { λ c. c.items.items };
+
+    ghost invariant = { λ c. length c.items.items ≤ 2 ^ 22 };
+}
+
+impl Cells {
+    /// The cells with these values, of which there are at most 4,194,304. Takes no memory.
+    pub fn of(items: Vec<i64>) -> Cells
+        requires { length items.items ≤ 2 ^ 22 }
+        ensures { result ≡ items.items }
+    {
+        Cells { items }
+    }
+
+    /// An array without cells. Takes no memory.
+    pub fn none(alloc: Global) -> Cells
+        ensures { result ≡ [] }
+    {
+        Cells {
+            items: Vec::new(alloc),
+        }
+    }
+
+    /// `count` cells, at most 4,194,304, each with the value 0.
+    pub fn zeros(alloc: Global, count: usize) -> Result<Cells, AllocError>
+        requires { count ≤ 2 ^ 22 }
+        ensures { IfOk result (λ cells. cells ≡ replicate count (pos 0)) }
+    {
+        let items = vec![in alloc; 0i64; count]?;
+        Ok(Cells { items })
+    }
+
+    /// How many cells there are.
+    pub fn len(&self) -> usize
+        ensures value { result ≡ length self.now }
+        ensures small { result ≤ 2 ^ 22 }
+    {
+        self.items.len()
+    }
+
+    /// The value of the cell at this place, which is there.
+    pub fn get(&self, index: usize) -> i64
+        requires { index < length self.now }
+        ensures { result ≡ slice_index_or self.now index (pos 0) }
+    {
+        self.items[index]
+    }
+
+    /// Gives the cell at this place, which is there, a value. Nothing else changes.
+    pub fn put(&mut self, index: usize, value: i64)
+        requires { index < length self.old }
+        ensures { self.new ≡ slice_set self.old index value }
+    {
+        self.items[index] = value;
+    }
+
+    /// The values of the cells in order.
+    pub fn as_slice(&self) -> &[i64]
+        ensures { result.now ≡ self.now }
+    {
+        self.items.as_slice()
+    }
+
+    /// Cells with the same values.
+    pub fn copy(&self, alloc: Global) -> Result<Cells, AllocError>
+        ensures { IfOk result (λ cells. cells ≡ self.now) }
+    {
+        let items = Vec::from_slice(alloc, self.items.as_slice())?;
+        Ok(Cells { items })
+    }
+}
