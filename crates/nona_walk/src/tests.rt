@@ -18,11 +18,11 @@ use std::process::Abort;
 use std::test::Fail;
 
 /// The place of each array's name, each operator, each `for` and each `while`.
-const ARRAY: u32 = 40;
+const ARRAY: u32 = 38;
 
 const OPERATOR: u32 = 90;
 
-const FOR: u32 = 50;
+const FOR: u32 = 7;
 
 const WHILE: u32 = 60;
 
@@ -498,6 +498,40 @@ fn bounds_are_taken_once(rt: HostRuntime) -> Result<(), Fail> {
         &[0],
         &[],
     );
+    Ok(())
+}
+
+/// The number with a sign before it.
+fn minus(alloc: Global, number: i64) -> Result<Expr, AllocError> {
+    Ok(Expr::Neg(Boxed::new(alloc, Expr::Number(number))?))
+}
+
+#[test]
+fn the_least_of_the_input(rt: HostRuntime) -> Result<(), Fail> {
+    let alloc = rt.alloc();
+    let least = fold(0, Fold::Min, cell(alloc, 0, false, scalar(1))?);
+    let all = for_loop(1, Expr::Len(named(0, 0)), body_of(alloc, [least])?);
+    let body = body_of(alloc, [all, print(scalar(0))])?;
+    let input = [i64::MAX, i64::MIN, 5];
+    let ended = run(&rt, alloc, &[i64::MAX], 1, &input, 100, body)?;
+    expect(&rt, &ended, Outcome::Done, &[i64::MIN], &[0], &[i64::MIN]);
+    Ok(())
+}
+
+#[test]
+fn quotients_are_printed_up_to_the_trap(rt: HostRuntime) -> Result<(), Fail> {
+    let alloc = rt.alloc();
+    let least = binary(alloc, Op::Sub, minus(alloc, i64::MAX)?, Expr::Number(1))?;
+    let printed = [
+        print(binary(alloc, Op::Div, minus(alloc, 7)?, Expr::Number(2))?),
+        print(binary(alloc, Op::Rem, minus(alloc, 7)?, Expr::Number(2))?),
+        print(binary(alloc, Op::Shl, Expr::Number(1), Expr::Number(65))?),
+        print(binary(alloc, Op::Div, least, minus(alloc, 1)?)?),
+        print(binary(alloc, Op::Div, Expr::Number(7), Expr::Number(0))?),
+    ];
+    let ended = run(&rt, alloc, &[], 1, &[], 100, body_of(alloc, printed)?)?;
+    let end = trap(TrapKind::Divide, OPERATOR);
+    expect(&rt, &ended, end, &[], &[0], &[-3, -1, 2, i64::MIN]);
     Ok(())
 }
 

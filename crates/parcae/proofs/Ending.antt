@@ -1,5 +1,5 @@
 -- How the end of a call follows from what it sent.
-use Rattle.std.proofs.Common.{◌≡◌, ℕ, ◌<◌, List, [], ◌++◌, length, length-append, append-nil, refl, ap, sym, ◌∙◌, subst, Ok, Err, inl, inr, arith}
+use Rattle.std.proofs.Common.{◌≡◌, ℕ, List, [], ◌++◌, length, length-append, append-nil, refl, ap, sym, subst, Ok, Err, inl, inr, arith}
 use Rattle.std.specs.declared.result.Result.{Result}
 use Rattle.std.specs.Io.KnownBytes.{Appends}
 use Rattle.fate_io.specs.Sending.{Sent, Sends, BreaksOff}
@@ -7,7 +7,7 @@ use Rattle.fate_io.specs.declared.sending.SendFault.{SendFault}
 use Rattle.fate_io.specs.declared.sending.SendFault.TheVariants as fault
 use Rattle.parcae.specs.declared.report.Status.{Status}
 use Rattle.parcae.specs.declared.report.Status.TheVariants.{NoMemory}
-use Rattle.parcae.specs.Told.{Told, bare, IsBare, Keeps}
+use Rattle.parcae.specs.Told.{Told, bare, IsBare}
 use Rattle.parcae.specs.Ends.{BreaksTo, Breaks, Ends, whole, write_failed, no_memory, status_of, end_of}
 
 -- a report of a status alone is bare

@@ -1,4 +1,4 @@
-use Rattle.std.proofs.Common.{arith, pos, refl, rules}
+use Rattle.std.proofs.Common.{arith, pos, rules}
 use Rattle.std.proofs.lemmas.Result.{err_from_is_err_and}
 use Rattle.parcae.specs.Texts.{number_line}
 use Rattle.fate_io.proofs.Texts.{sends_more, sends_stop}
