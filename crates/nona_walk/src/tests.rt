@@ -20,6 +20,9 @@ use std::test::Fail;
 /// The place of each array's name, each operator, each `for` and each `while`.
 const ARRAY: u32 = 38;
 
+/// The place of the array's name in a program that has one access, further to the front.
+const FIRST_ARRAY: u32 = 28;
+
 const OPERATOR: u32 = 90;
 
 const FOR: u32 = 7;
@@ -156,8 +159,13 @@ fn binary(alloc: Global, op: Op, left: Expr, right: Expr) -> Result<Expr, AllocE
 
 /// A cell of the input, whose id is 0, or of the declared array, whose id is 1.
 fn access(array: u32, wrap: bool, index: Expr) -> Access {
+    access_at(array, ARRAY, wrap, index)
+}
+
+/// The same, with the place of the array's name.
+fn access_at(array: u32, at: u32, wrap: bool, index: Expr) -> Access {
     Access {
-        array: named(array, ARRAY),
+        array: named(array, at),
         wrap,
         index,
     }
@@ -361,10 +369,14 @@ fn an_index_beyond_the_cells_traps(rt: HostRuntime) -> Result<(), Fail> {
     let end = trap(TrapKind::Index, ARRAY);
     expect(&rt, &ended, end, &[8], &[0, 1, 2, 3, 4, 5, 6], &[3]);
     let far = binary(alloc, Op::Mul, scalar(0), Expr::Number(4_294_967_296))?;
-    let far = body_of(alloc, [put(false, far, Expr::Number(1))])?;
-    let striding = body_of(alloc, [for_loop(0, Expr::Number(2), far)])?;
-    let ended = run(&rt, alloc, &[], 4, &[], 100, striding)?;
-    expect(&rt, &ended, end, &[], &[1, 0, 0, 0], &[]);
+    let far = Stmt::Put {
+        place: access_at(1, FIRST_ARRAY, false, far),
+        value: Expr::Number(1),
+    };
+    let striding = for_loop(0, Expr::Number(2), body_of(alloc, [far])?);
+    let ended = run(&rt, alloc, &[], 4, &[], 100, body_of(alloc, [striding])?)?;
+    let first_end = trap(TrapKind::Index, FIRST_ARRAY);
+    expect(&rt, &ended, first_end, &[], &[1, 0, 0, 0], &[]);
     let divided = binary(alloc, Op::Div, Expr::Number(1), Expr::Number(0))?;
     let both = body_of(alloc, [put(false, Expr::Number(-1), divided)])?;
     let ended = run(&rt, alloc, &[], 1, &[], 100, both)?;
@@ -375,11 +387,13 @@ fn an_index_beyond_the_cells_traps(rt: HostRuntime) -> Result<(), Fail> {
 #[test]
 fn an_index_wraps_unless_there_is_no_cell(rt: HostRuntime) -> Result<(), Fail> {
     let alloc = rt.alloc();
-    let input = cell(alloc, 0, true, scalar(1))?;
+    let input = access_at(0, FIRST_ARRAY, true, scalar(1));
+    let input = Expr::Cell(Boxed::new(alloc, input)?);
     let sum = body_of(alloc, [fold(0, Fold::Add, input)])?;
     let summing = body_of(alloc, [for_loop(1, Expr::Number(3), sum)])?;
     let ended = run(&rt, alloc, &[0], 1, &[], 100, summing)?;
-    expect(&rt, &ended, trap(TrapKind::Empty, ARRAY), &[0], &[0], &[]);
+    let end = trap(TrapKind::Empty, FIRST_ARRAY);
+    expect(&rt, &ended, end, &[0], &[0], &[]);
     let backward = [
         fold_put(true, Expr::Number(-1), Fold::Or, Expr::Number(6)),
         put(true, Expr::Number(-5), Expr::Number(9)),
