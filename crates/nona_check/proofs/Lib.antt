@@ -1,3 +1,8 @@
-pub mod Scopes
+pub mod AfterLaws
+pub mod CheckLaws
+pub mod FirstLaws
+pub mod KnownNames
+pub mod MergedLaws
+pub mod Pushed
 pub mod Steps
-pub mod Formed
+pub mod StmtLaws

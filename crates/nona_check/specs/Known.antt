@@ -1,4 +1,4 @@
--- What a scope keeps beside the list of what is visible: a map, which answers for each name.
+-- What a list of names keeps beside itself: a map, which answers for each name.
 use Rattle.std.specs.Prelude.{◌≡◌, ℕ, Bool, false, List, [], ◌∷◌, map, Vec}
 use Rattle.std.specs.declared.option.Option.{Option}
 use Rattle.std.specs.declared.alloc.Global.{Global}
@@ -9,12 +9,16 @@ use Rattle.std.specs.BTreeMap.{BTreeMap, get_by}
 use Rattle.std.specs.Cmp.Lexicographic.{slice_cmp}
 use Rattle.std.specs.Ordering.{nat_cmp}
 use Rattle.nona_tree.specs.Names.{Visible, id_of, is_index}
-use Rattle.nona_check.specs.declared.scope.Known.{Known}
-use Rattle.nona_check.specs.declared.scope.Declared.{Declared}
+use Rattle.nona_check.specs.declared.names.Known.{Known}
+use Rattle.nona_check.specs.declared.names.Declared.{Declared}
 
--- the declared scalars, as contracts see them
+-- the declared names, as contracts see them
 abbrev pub visible_of : List Declared → List Visible
 visible_of ds = map (λ (d : Declared). record { name = d.name; index = d.index }) ds
+
+-- their words alone
+abbrev pub words_of : List Visible → List (List ℕ)
+words_of vs = map (λ (v : Visible). v.name) vs
 
 -- what is known of a name: its id, and whether it is an index; nothing where it isn't visible
 abbrev pub known_of : List ℕ → List Visible → Option Known

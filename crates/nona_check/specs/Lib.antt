@@ -1,3 +1,4 @@
-pub mod Answers
+pub mod After
+pub mod First
 pub mod Known
-pub mod Vars
+pub mod Merged

@@ -1,76 +1,119 @@
-// The names in expressions, and the bounds of loops.
+// The names in expressions, and those that statements use.
 
-ghost use Rattle.std.specs.Prelude.{◌≡◌, MatchOption, false, true};
-ghost use Rattle.nona_tree.specs.Names.{use_with_id, target_with_id, is_small_op, expr_with_ids, is_short};
-ghost use Rattle.nona_check.specs.Answers.{Answers};
+ghost use Rattle.std.specs.Prelude.{◌≡◌, ◌++◌, false, IfOk, OnOk};
+ghost use Rattle.nona_tree.specs.Faults.{scalar_faults, array_faults, target_faults, use_faults, new_faults, expr_faults, place_faults};
+ghost use Rattle.nona_tree.specs.Ids.{scalar_ids, array_ids, new_ids, expr_ids, access_ids};
+ghost use Rattle.nona_check.specs.First.{first_from};
 
-use crate::fault::CheckFault;
-use crate::scope::Scope;
-use nona_num::gap;
-use nona_tree::{Expr, Op, Use};
+use crate::fault::{note, note_where};
+use crate::scope::{Scope, is_input};
+use nona_tree::{Access, Expr, ProgramFault, Use};
 use sqlite_items::Boxed;
-use std::alloc::Global;
+use std::alloc::{AllocError, Global};
 
-/// The most turns of a loop.
-const TURN_BOUND: u64 = 1_000_000_000;
-
-/// A name with its id, where it is visible.
-fn resolve_use(name: &Use, scope: &Scope) -> Option<Use>
-    ensures { result ≡ use_with_id name.now scope.now }
+/// Takes a name into account that isn't what it stands for: it is of the other kind, or it isn't visible.
+fn note_other(first: &mut Option<ProgramFault>, other: bool, at: u32)
+    ensures { first.new ≡ first_from first.old (use_faults false other at) }
 {
-    match scope.find(&name.text) {
-        Some(id) => Some(name.with_id(id)),
-        None => None,
+    if other {
+        note(first, ProgramFault::KindWrong { at });
+    } else {
+        note(first, ProgramFault::Unknown { at });
     }
 }
 
-/// A name that is assigned, with its id, where it is visible and no index.
-pub fn resolve_target(name: &Use, scope: &Scope) -> Option<Use>
-    ensures { result ≡ target_with_id name.now scope.now }
+/// A name that stands for a scalar, with its id.
+pub fn resolve_scalar(name: &Use, scope: &Scope, first: &mut Option<ProgramFault>) -> Use
+    ensures ids { result ≡ scalar_ids name.now scope.now }
+    ensures faults { first.new ≡ first_from first.old (scalar_faults name.now scope.now) }
 {
-    if scope.is_index(&name.text) {
-        return None;
-    }
-    resolve_use(name, scope)
-}
-
-/// Whether an operator is accepted so far.
-fn is_small(op: Op) -> bool
-    ensures { result ≡ is_small_op op }
-{
-    match op {
-        Op::Add | Op::Sub | Op::Mul => true,
-        _ => false,
+    match scope.scalar(&name.text) {
+        Some(id) => name.with_id(id),
+        None => {
+            note_other(first, scope.array(&name.text).is_some(), name.at);
+            name.with_id(0)
+        }
     }
 }
 
-/// An expression with its ids. `Early`: a name in it isn't visible, or a form or an operator isn't accepted yet.
-pub fn resolve_expr(alloc: Global, expr: &Expr, scope: &Scope) -> Result<Expr, CheckFault>
-    ensures { Answers result (expr_with_ids expr.now scope.now) }
+/// A name that stands for an array, with its id.
+pub fn resolve_array(name: &Use, scope: &Scope, first: &mut Option<ProgramFault>) -> Use
+    ensures ids { result ≡ array_ids name.now scope.now }
+    ensures faults { first.new ≡ first_from first.old (array_faults name.now scope.now) }
+{
+    match scope.array(&name.text) {
+        Some(id) => name.with_id(id),
+        None => {
+            note_other(first, scope.scalar(&name.text).is_some(), name.at);
+            name.with_id(0)
+        }
+    }
+}
+
+/// A name that is assigned, with its id.
+pub fn resolve_target(name: &Use, scope: &Scope, first: &mut Option<ProgramFault>) -> Use
+    ensures ids { result ≡ scalar_ids name.now scope.now }
+    ensures faults { first.new ≡ first_from first.old (target_faults name.now scope.now) }
+{
+    let resolved = resolve_scalar(name, scope, first);
+    let fault = ProgramFault::IndexAssigned { at: name.at };
+    note_where(first, scope.is_index(&name.text), fault);
+    resolved
+}
+
+/// Takes a name that is declared into account.
+pub fn note_new(first: &mut Option<ProgramFault>, name: &Use, scope: &Scope)
+    ensures { first.new ≡ first_from first.old (new_faults name.now scope.now) }
+{
+    let fault = ProgramFault::Twice { at: name.at };
+    note_where(first, scope.is_seen(&name.text), fault);
+}
+
+/// A scalar's name where it is declared, with its id.
+pub fn resolve_new(name: &Use, scope: &Scope, first: &mut Option<ProgramFault>) -> Use
+    ensures ids { result ≡ new_ids name.now scope.now }
+    ensures faults { first.new ≡ first_from first.old (new_faults name.now scope.now) }
+{
+    note_new(first, name, scope);
+    name.with_id(scope.count())
+}
+
+/// An expression with its ids.
+#[cycle(expr)]
+#[tactic(auto, using(crate::proofs::Steps::expr_steps))]
+pub fn resolve_expr(
+    alloc: Global,
+    expr: &Expr,
+    scope: &Scope,
+    first: &mut Option<ProgramFault>,
+) -> Result<Expr, AllocError>
+    ensures ids { IfOk result (λ e. e ≡ expr_ids expr.now scope.now) }
+    ensures faults { OnOk result (first.new ≡ first_from first.old (expr_faults expr.now scope.now)) }
 {
     match expr {
         Expr::Number(value) => Ok(Expr::Number(*value)),
-        Expr::Scalar(name) => match resolve_use(name, scope) {
-            Some(name) => Ok(Expr::Scalar(name)),
-            None => Err(CheckFault::Early),
-        },
+        Expr::Scalar(name) => Ok(Expr::Scalar(resolve_scalar(name, scope, first))),
+        Expr::Cell(place) => {
+            let place = resolve_access(alloc, place.get(), scope, first)?;
+            Ok(Expr::Cell(Boxed::new(alloc, place)?))
+        }
+        Expr::Len(name) => Ok(Expr::Len(resolve_array(name, scope, first))),
+        Expr::Neg(value) => {
+            let value = resolve_expr(alloc, value.get(), scope, first)?;
+            Ok(Expr::Neg(Boxed::new(alloc, value)?))
+        }
+        Expr::Not(value) => {
+            let value = resolve_expr(alloc, value.get(), scope, first)?;
+            Ok(Expr::Not(Boxed::new(alloc, value)?))
+        }
         Expr::Binary {
             op,
             at,
             left,
             right,
         } => {
-            if !is_small(*op) {
-                return Err(CheckFault::Early);
-            }
-            let left = match resolve_expr(alloc, left.get(), scope) {
-                Ok(left) => left,
-                Err(fault) => return Err(fault),
-            };
-            let right = match resolve_expr(alloc, right.get(), scope) {
-                Ok(right) => right,
-                Err(fault) => return Err(fault),
-            };
+            let left = resolve_expr(alloc, left.get(), scope, first)?;
+            let right = resolve_expr(alloc, right.get(), scope, first)?;
             Ok(Expr::Binary {
                 op: *op,
                 at: *at,
@@ -78,22 +121,47 @@ pub fn resolve_expr(alloc: Global, expr: &Expr, scope: &Scope) -> Result<Expr, C
                 right: Boxed::new(alloc, right)?,
             })
         }
-        Expr::Cell(_) | Expr::Len(_) | Expr::Neg(_) | Expr::Not(_) => Err(CheckFault::Early),
     }
 }
 
-/// Copies of a loop's bounds, where these are numbers that leave it no more turns than it may take.
-pub fn short_bounds(low: &Expr, high: &Expr) -> Option<(Expr, Expr)>
-    ensures { MatchOption result (is_short low.now high.now ≡ false)
-        (λ bounds. (is_short low.now high.now ≡ true) × (bounds.0 ≡ low.now) × (bounds.1 ≡ high.now)) }
+/// A cell that is read, with its ids.
+#[cycle(expr)]
+#[tactic(auto, using(crate::proofs::Steps::expr_steps))]
+fn resolve_access(
+    alloc: Global,
+    place: &Access,
+    scope: &Scope,
+    first: &mut Option<ProgramFault>,
+) -> Result<Access, AllocError>
+    ensures ids { IfOk result (λ c. c ≡ access_ids place.now scope.now) }
+    ensures faults { OnOk result (first.new ≡ first_from first.old (array_faults place.now.array scope.now ++ expr_faults place.now.index scope.now)) }
 {
-    match low {
-        Expr::Number(low) => match high {
-            Expr::Number(high) if gap(*low, *high) <= TURN_BOUND => {
-                Some((Expr::Number(*low), Expr::Number(*high)))
-            }
-            _ => None,
-        },
-        _ => None,
-    }
+    let array = resolve_array(&place.array, scope, first);
+    let index = resolve_expr(alloc, &place.index, scope, first)?;
+    Ok(Access {
+        array,
+        wrap: place.wrap,
+        index,
+    })
+}
+
+/// A cell that is written, with its ids.
+pub fn resolve_place(
+    alloc: Global,
+    place: &Access,
+    scope: &Scope,
+    first: &mut Option<ProgramFault>,
+) -> Result<Access, AllocError>
+    ensures ids { IfOk result (λ c. c ≡ access_ids place.now scope.now) }
+    ensures faults { OnOk result (first.new ≡ first_from first.old (place_faults place.now scope.now)) }
+{
+    let array = resolve_array(&place.array, scope, first);
+    let fault = ProgramFault::InputWritten { at: place.array.at };
+    note_where(first, is_input(&place.array.text), fault);
+    let index = resolve_expr(alloc, &place.index, scope, first)?;
+    Ok(Access {
+        array,
+        wrap: place.wrap,
+        index,
+    })
 }

@@ -1,127 +1,127 @@
-ghost use Rattle.std.specs.Prelude.{◌≡◌, List, [], ◌∷◌, ◌++◌, length, IsTrue, OnOk, OnErr};
-ghost use Rattle.nona_tree.specs.Names.{Visible, id_of, is_index, is_free};
-ghost use Rattle.nona_check.specs.Known.{known_of};
+ghost use Rattle.std.specs.Prelude.{◌≡◌, ◌+◌, ◌<◌, ◌^◌, length, IfOk, OnOk};
+ghost use Rattle.std.specs.Str.{bytes_eq};
+ghost use Rattle.nona_tree.specs.Names.{is_index};
+ghost use Rattle.nona_tree.specs.Seen.{input_name, seen_first, scalar_id, array_id, is_seen, with_scalar, with_array};
+ghost use Rattle.nona_check.specs.After.{cut_to};
 
+use crate::names::Names;
 use nona_tree::Name;
 use std::alloc::{AllocError, Global};
-use std::collections::BTreeMap;
 use std::marker::Model;
 
-/// What a scope knows of a visible name.
-#[derive(Clone, Copy, Debug)]
-struct Known {
-    id: u32,
-    index: bool,
+/// The word that always names an array.
+fn input() -> &'static [u8]
+    ensures { result.now ≡ input_name }
+{
+    b"input".as_slice()
 }
 
-/// A declared scalar.
-#[derive(Debug, Drop)]
-struct Declared {
-    name: Name,
-    index: bool,
+/// Whether a name is that of the input.
+pub fn is_input(name: &Name) -> bool
+    ensures { result ≡ bytes_eq name.now input_name }
+{
+    name.as_slice() == input()
 }
 
-/// The visible scalars, in order of declaration. Each step takes a time logarithmic in their number.
+/// What is visible at a place of a program: scalars and arrays, each in order of declaration. A name is found in a time
+/// logarithmic in their number.
 #[derive(Drop)]
 pub struct Scope {
-    known: BTreeMap<Vec<u8>, Known>,
-    declared: Vec<Declared>,
+    scalars: Names,
+    // None of these is an index.
+    arrays: Names,
 }
 
 impl Model for Scope {
-    ghost use Rattle.std.specs.Prelude.{List, length, ◌<◌, ◌^◌};
-    ghost use Rattle.nona_tree.specs.Names.{Visible};
-    ghost use Rattle.nona_check.specs.Known.{visible_of, Agrees, AreDistinct};
+    ghost use Rattle.nona_tree.specs.Seen.{Seen};
+    ghost use Rattle.nona_check.specs.Known.{words_of};
 
-    ghost Value = { List Visible };
+    ghost Value = { Seen };
 
-    ghost view = { λ s. visible_of s.declared.items };
-
-    ghost invariant = { λ s. (length s.declared.items < 2 ^ 32) × AreDistinct (visible_of s.declared.items) × Agrees s.known (visible_of s.declared.items) };
+    ghost view = { λ s. record { scalars = s.scalars; arrays = words_of s.arrays } };
 }
 
 impl Scope {
-    /// A scope where nothing is visible.
-    pub fn new(alloc: Global) -> Scope
-        ensures { result ≡ [] }
+    /// What is visible before the first declaration: the input.
+    pub fn new(alloc: Global) -> Result<Scope, AllocError>
+        ensures { IfOk result (λ scope. scope ≡ seen_first) }
     {
-        Scope {
-            known: BTreeMap::new(alloc),
-            declared: Vec::new(alloc),
-        }
+        let mut arrays = Names::new(alloc);
+        arrays.declare(alloc, &Name::of(input()), false)?;
+        Ok(Scope {
+            scalars: Names::new(alloc),
+            arrays,
+        })
     }
 
     /// How many scalars are visible: the id of the next one.
     pub fn count(&self) -> u32
-        ensures { result ≡ length self.now }
+        ensures { result ≡ length self.now.scalars }
     {
-        self.declared.len() as u32
+        self.scalars.count()
     }
 
-    /// What is known of a name, where it is visible.
-    fn look_up(&self, name: &Name) -> Option<Known>
-        ensures { result ≡ known_of name.now self.now }
+    /// The id of a name among the scalars, where it is one.
+    pub fn scalar(&self, name: &Name) -> Option<u32>
+        ensures { result ≡ scalar_id name.now self.now }
     {
-        self.known.get(name.as_slice()).copied()
+        self.scalars.find(name)
     }
 
-    /// The id of a name, where it is visible.
-    pub fn find(&self, name: &Name) -> Option<u32>
-        ensures { result ≡ id_of name.now self.now }
+    /// The id of a name among the arrays, where it is one.
+    pub fn array(&self, name: &Name) -> Option<u32>
+        ensures { result ≡ array_id name.now self.now }
     {
-        match self.look_up(name) {
-            Some(known) => Some(known.id),
-            None => None,
-        }
+        self.arrays.find(name)
     }
 
     /// Whether a name is that of a visible index.
     pub fn is_index(&self, name: &Name) -> bool
-        ensures { result ≡ is_index name.now self.now }
+        ensures { result ≡ is_index name.now self.now.scalars }
     {
-        match self.look_up(name) {
-            Some(known) => known.index,
-            None => false,
-        }
+        self.scalars.is_index(name)
     }
 
-    /// Whether a name may be declared.
-    pub fn is_free(&self, name: &Name) -> bool
-        ensures { result ≡ is_free name.now self.now }
+    /// Whether a name is visible.
+    pub fn is_seen(&self, name: &Name) -> bool
+        ensures { result ≡ is_seen name.now self.now }
     {
-        name.as_slice() != b"input".as_slice() && self.find(name).is_none()
+        self.scalar(name).is_some() || self.array(name).is_some()
     }
 
-    /// Makes one more scalar visible. After an error the scope is as before.
-    pub fn declare(&mut self, alloc: Global, name: &Name, index: bool) -> Result<(), AllocError>
-        requires { IsTrue (is_free name.now self.old) }
-        ensures ok { OnOk result (self.new ≡ self.old ++ record { name = name.now; index = index } ∷ []) }
-        ensures err { OnErr result (self.new ≡ self.old) }
+    /// Makes one more scalar visible, unless its name is visible already.
+    pub fn declare_scalar(
+        &mut self,
+        alloc: Global,
+        name: &Name,
+        index: bool,
+    ) -> Result<(), AllocError>
+        requires { length self.old.scalars + 1 < 2 ^ 32 }
+        ensures { OnOk result (self.new ≡ with_scalar name.now index self.old) }
     {
-        if self.declared.len() >= u32::MAX as usize {
-            return Err(AllocError);
+        if self.is_seen(name) {
+            return Ok(());
         }
-        let id = self.declared.len() as u32;
-        let key = Vec::from_slice(alloc, name.as_slice())?;
-        self.declared.push(Declared {
-            name: name.copy(),
-            index,
-        })?;
-        match self.known.insert(key, Known { id, index }) {
-            Ok(_) => Ok(()),
-            Err(_) => {
-                self.declared.pop();
-                Err(AllocError)
-            }
-        }
+        self.scalars.declare(alloc, name, index)?;
+        Ok(())
     }
 
-    /// Makes the newest scalar invisible, where there is one.
-    pub fn leave(&mut self)
-        ensures { (outer : List Visible) (v : Visible) → self.old ≡ outer ++ v ∷ [] → self.new ≡ outer }
+    /// Makes one more array visible, unless its name is visible already.
+    pub fn declare_array(&mut self, alloc: Global, name: &Name) -> Result<(), AllocError>
+        requires { length self.old.arrays + 1 < 2 ^ 32 }
+        ensures { OnOk result (self.new ≡ with_array name.now self.old) }
     {
-        if let Some(last) = self.declared.pop() {
-            self.known.remove(last.name.as_slice());
+        if self.is_seen(name) {
+            return Ok(());
         }
+        self.arrays.declare(alloc, name, false)?;
+        Ok(())
+    }
+
+    /// Only the first scalars stay visible, so many.
+    pub fn cut(&mut self, count: u32)
+        ensures { self.new ≡ cut_to count self.old }
+    {
+        self.scalars.cut(count);
     }
 }

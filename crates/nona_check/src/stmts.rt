@@ -1,94 +1,130 @@
 // The names and loops of statements.
 
-ghost use Rattle.std.specs.Prelude.{◌≡◌, ◌||◌, length, nat_le, OnOk};
-ghost use Rattle.nona_tree.specs.Names.{stmt_with_ids, all_with_ids, unit_bound};
-ghost use Rattle.nona_tree.specs.declared.trees.Stmt.{For};
-ghost use Rattle.nona_check.specs.Answers.{Answers};
+ghost use Rattle.std.specs.Prelude.{◌≡◌, ◌+◌, ◌<◌, ◌^◌, length, IfOk, OnOk};
+ghost use Rattle.nona_tree.specs.Faults.{units_faults, stmt_faults, all_faults};
+ghost use Rattle.nona_tree.specs.Ids.{stmt_ids, all_ids};
+ghost use Rattle.nona_tree.specs.Seen.{seen_after};
+ghost use Rattle.nona_tree.specs.Smallness.{stmt_size, all_size};
+ghost use Rattle.nona_tree.specs.declared.trees.Stmt.{Let, For};
+ghost use Rattle.nona_check.specs.After.{seen_after_all};
+ghost use Rattle.nona_check.specs.First.{first_from};
 
-use crate::exprs::{resolve_expr, resolve_target, short_bounds};
-use crate::fault::CheckFault;
+use crate::exprs::{resolve_expr, resolve_new, resolve_place, resolve_target};
+use crate::fault::note_where;
 use crate::scope::Scope;
-use nona_tree::{Loop, Stmt};
+use nona_tree::{Expr, Loop, ProgramFault, Stmt, Use};
 use sqlite_items::Items;
-use std::alloc::Global;
+use std::alloc::{AllocError, Global};
 
 /// The most statements at the top of a loop's body.
 const UNIT_BOUND: usize = 64;
 
-/// Whether a loop may have this body.
-fn fits_loop(seq: bool, body: &Items<Stmt>) -> bool
-    ensures { result ≡ (seq || nat_le (length body.now) unit_bound) }
+/// Takes the number of a loop's units into account.
+fn note_units(first: &mut Option<ProgramFault>, seq: bool, count: usize, at: u32)
+    ensures { first.new ≡ first_from first.old (units_faults seq count at) }
 {
-    seq || body.len() <= UNIT_BOUND
+    let too_many = !seq && count > UNIT_BOUND;
+    note_where(first, too_many, ProgramFault::Units { at });
 }
 
-/// A statement with its ids. `Early`: it breaks a rule on names or loops, or its form isn't accepted yet. The scope is as
-/// before, unless there is a fault.
+/// A scalar's declaration with its ids. The scalar is visible from then on.
+fn resolve_let(
+    alloc: Global,
+    name: &Use,
+    value: &Expr,
+    scope: &mut Scope,
+    first: &mut Option<ProgramFault>,
+) -> Result<Stmt, AllocError>
+    requires { length scope.old.scalars + 1 < 2 ^ 32 }
+    ensures ids { IfOk result (λ s. s ≡ stmt_ids (Let name.now value.now) scope.old) }
+    ensures faults { OnOk result (first.new ≡ first_from first.old (stmt_faults (Let name.now value.now) scope.old)) }
+    ensures seen { OnOk result (scope.new ≡ seen_after (Let name.now value.now) scope.old) }
+{
+    let resolved = resolve_new(name, scope, first);
+    let value = resolve_expr(alloc, value, scope, first)?;
+    scope.declare_scalar(alloc, &name.text, false)?;
+    Ok(Stmt::Let {
+        name: resolved,
+        value,
+    })
+}
+
+/// A statement with its ids. Each id of a scalar in it fits into 32 bits.
 #[cycle(stmt)]
-fn resolve_stmt(alloc: Global, stmt: &Stmt, scope: &mut Scope) -> Result<Stmt, CheckFault>
-    ensures answers { Answers result (stmt_with_ids stmt.now scope.old) }
-    ensures same { OnOk result (scope.new ≡ scope.old) }
+#[tactic(auto, using(crate::proofs::Steps::stmt_steps))]
+fn resolve_stmt(
+    alloc: Global,
+    stmt: &Stmt,
+    scope: &mut Scope,
+    first: &mut Option<ProgramFault>,
+) -> Result<Stmt, AllocError>
+    requires { length scope.old.scalars + stmt_size stmt.now < 2 ^ 32 }
+    ensures ids { IfOk result (λ s. s ≡ stmt_ids stmt.now scope.old) }
+    ensures faults { OnOk result (first.new ≡ first_from first.old (stmt_faults stmt.now scope.old)) }
+    ensures seen { OnOk result (scope.new ≡ seen_after stmt.now scope.old) }
 {
     match stmt {
-        Stmt::Set { name, value } => {
-            let Some(name) = resolve_target(name, scope) else {
-                return Err(CheckFault::Early);
-            };
-            match resolve_expr(alloc, value, scope) {
-                Ok(value) => Ok(Stmt::Set { name, value }),
-                Err(fault) => Err(fault),
-            }
-        }
-        Stmt::Fold { name, fold, value } => {
-            let Some(name) = resolve_target(name, scope) else {
-                return Err(CheckFault::Early);
-            };
-            match resolve_expr(alloc, value, scope) {
-                Ok(value) => Ok(Stmt::Fold {
-                    name,
-                    fold: *fold,
-                    value,
-                }),
-                Err(fault) => Err(fault),
-            }
-        }
-        Stmt::For(l) => resolve_loop(alloc, l, scope),
-        Stmt::Print { value, at } => match resolve_expr(alloc, value, scope) {
-            Ok(value) => Ok(Stmt::Print { value, at: *at }),
-            Err(fault) => Err(fault),
-        },
-        Stmt::Let { .. }
-        | Stmt::Put { .. }
-        | Stmt::FoldPut { .. }
-        | Stmt::If { .. }
-        | Stmt::While { .. } => Err(CheckFault::Early),
+        Stmt::Let { name, value } => resolve_let(alloc, name, value, scope, first),
+        Stmt::Set { name, value } => Ok(Stmt::Set {
+            name: resolve_target(name, scope, first),
+            value: resolve_expr(alloc, value, scope, first)?,
+        }),
+        Stmt::Fold { name, fold, value } => Ok(Stmt::Fold {
+            name: resolve_target(name, scope, first),
+            fold: *fold,
+            value: resolve_expr(alloc, value, scope, first)?,
+        }),
+        Stmt::Put { place, value } => Ok(Stmt::Put {
+            place: resolve_place(alloc, place, scope, first)?,
+            value: resolve_expr(alloc, value, scope, first)?,
+        }),
+        Stmt::FoldPut { place, fold, value } => Ok(Stmt::FoldPut {
+            place: resolve_place(alloc, place, scope, first)?,
+            fold: *fold,
+            value: resolve_expr(alloc, value, scope, first)?,
+        }),
+        Stmt::If { test, yes, no } => Ok(Stmt::If {
+            test: resolve_expr(alloc, test, scope, first)?,
+            yes: resolve_block(alloc, yes.as_slice(), scope, first)?,
+            no: resolve_block(alloc, no.as_slice(), scope, first)?,
+        }),
+        Stmt::While { test, body, at } => Ok(Stmt::While {
+            test: resolve_expr(alloc, test, scope, first)?,
+            body: resolve_block(alloc, body.as_slice(), scope, first)?,
+            at: *at,
+        }),
+        Stmt::For(l) => resolve_loop(alloc, l, scope, first),
+        Stmt::Print { value, at } => Ok(Stmt::Print {
+            value: resolve_expr(alloc, value, scope, first)?,
+            at: *at,
+        }),
     }
 }
 
-/// A loop with its ids. `Early`: it breaks a rule on names or loops. The scope is as before, unless there is a fault.
+/// A `for` with its ids. Its index is visible in its body alone.
 #[cycle(stmt)]
-fn resolve_loop(alloc: Global, l: &Loop, scope: &mut Scope) -> Result<Stmt, CheckFault>
-    ensures answers { Answers result (stmt_with_ids (For l.now) scope.old) }
-    ensures same { OnOk result (scope.new ≡ scope.old) }
+#[tactic(auto, using(crate::proofs::Steps::stmt_steps))]
+fn resolve_loop(
+    alloc: Global,
+    l: &Loop,
+    scope: &mut Scope,
+    first: &mut Option<ProgramFault>,
+) -> Result<Stmt, AllocError>
+    requires { length scope.old.scalars + stmt_size (For l.now) < 2 ^ 32 }
+    ensures ids { IfOk result (λ s. s ≡ stmt_ids (For l.now) scope.old) }
+    ensures faults { OnOk result (first.new ≡ first_from first.old (stmt_faults (For l.now) scope.old)) }
+    ensures seen { OnOk result (scope.new ≡ scope.old) }
 {
-    if !scope.is_free(&l.index.text) {
-        return Err(CheckFault::Early);
-    }
-    let Some((low, high)) = short_bounds(&l.low, &l.high) else {
-        return Err(CheckFault::Early);
-    };
-    let id = scope.count();
-    scope.declare(alloc, &l.index.text, true)?;
-    let body = match resolve_all(alloc, l.body.as_slice(), scope) {
-        Ok(body) => body,
-        Err(fault) => return Err(fault),
-    };
-    scope.leave();
-    if !fits_loop(l.seq, &body) {
-        return Err(CheckFault::Early);
-    }
+    note_units(first, l.seq, l.body.len(), l.at);
+    let index = resolve_new(&l.index, scope, first);
+    let low = resolve_expr(alloc, &l.low, scope, first)?;
+    let high = resolve_expr(alloc, &l.high, scope, first)?;
+    let count = scope.count();
+    scope.declare_scalar(alloc, &l.index.text, true)?;
+    let body = resolve_block(alloc, l.body.as_slice(), scope, first)?;
+    scope.cut(count);
     Ok(Stmt::For(Loop {
-        index: l.index.with_id(id),
+        index,
         low,
         high,
         body,
@@ -97,22 +133,43 @@ fn resolve_loop(alloc: Global, l: &Loop, scope: &mut Scope) -> Result<Stmt, Chec
     }))
 }
 
-/// Statements with their ids. `Early`: one breaks a rule on names or loops. The scope is as before, unless there is a fault.
+/// The statements of a block with their ids. What is visible after them is what was before.
 #[cycle(stmt)]
+#[tactic(auto, using(crate::proofs::Steps::stmt_steps))]
+fn resolve_block(
+    alloc: Global,
+    stmts: &[Stmt],
+    scope: &mut Scope,
+    first: &mut Option<ProgramFault>,
+) -> Result<Items<Stmt>, AllocError>
+    requires { length scope.old.scalars + all_size stmts.now < 2 ^ 32 }
+    ensures ids { IfOk result (λ ss. ss ≡ all_ids stmts.now scope.old) }
+    ensures faults { OnOk result (first.new ≡ first_from first.old (all_faults stmts.now scope.old)) }
+    ensures seen { OnOk result (scope.new ≡ scope.old) }
+{
+    let count = scope.count();
+    let resolved = resolve_all(alloc, stmts, scope, first)?;
+    scope.cut(count);
+    Ok(resolved)
+}
+
+/// One statement after another, with their ids.
+#[cycle(stmt)]
+#[tactic(auto, using(crate::proofs::Steps::stmt_steps))]
 pub fn resolve_all(
     alloc: Global,
     stmts: &[Stmt],
     scope: &mut Scope,
-) -> Result<Items<Stmt>, CheckFault>
-    ensures answers { Answers result (all_with_ids stmts.now scope.old) }
-    ensures same { OnOk result (scope.new ≡ scope.old) }
+    first: &mut Option<ProgramFault>,
+) -> Result<Items<Stmt>, AllocError>
+    requires { length scope.old.scalars + all_size stmts.now < 2 ^ 32 }
+    ensures ids { IfOk result (λ ss. ss ≡ all_ids stmts.now scope.old) }
+    ensures faults { OnOk result (first.new ≡ first_from first.old (all_faults stmts.now scope.old)) }
+    ensures seen { OnOk result (scope.new ≡ seen_after_all stmts.now scope.old) }
 {
     let mut resolved = Items::new(alloc);
     for stmt in stmts {
-        match resolve_stmt(alloc, stmt, scope) {
-            Ok(stmt) => resolved.push(stmt)?,
-            Err(fault) => return Err(fault),
-        }
+        resolved.push(resolve_stmt(alloc, stmt, scope, first)?)?;
     }
     Ok(resolved)
 }

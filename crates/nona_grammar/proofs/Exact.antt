@@ -11,15 +11,16 @@ use Rattle.nona_lex.specs.declared.tokens.Token.TheVariants as token
 use Rattle.nona_lex.specs.declared.tokens.Spot.{Spot}
 use Rattle.nona_tree.specs.declared.trees.Expr.{Expr}
 use Rattle.nona_tree.specs.declared.trees.Expr.TheVariants as expr
-use Rattle.nona_grammar.specs.Levels.{word, sign, name, number, named}
-use Rattle.nona_grammar.specs.Stack.{Trees, Act, Assign, Each, Leaf, Var, act, push, block, empty, whole_of}
+use Rattle.nona_grammar.specs.Levels.{word, sign, name, number, named, loosest}
+use Rattle.nona_grammar.specs.Stack.{Trees, Act, Leaf, Bind, Assign, Store, Each, Array, Var, act, push, block, empty, whole_of}
 use Rattle.nona_grammar.specs.Machine
-use Rattle.nona_grammar.specs.Machine.{Sym, Do, Want, In, Decls, VarName, Init, InitNumber, Stmts, Statement, AfterName, ForName, Bound, Block, Whole, Level, Tail, Primary, sign_code, choice, optional, skip, past, step, finish, after, build}
-use Rattle.nona_grammar.specs.Grammar.{IsLevel, IsExpr, IsBlock, number-is, primary-is, lower-is, level-is, print-is, block-is, no-more}
+use Rattle.nona_grammar.specs.Machine.{Sym, Do, Want, In, Decls, ArrayName, CellsOpen, Cells, VarName, Init, InitNumber, Stmts, Statement, LetName, AfterName, AfterCell, Else, ForWord, ForName, Block, Index, Whole, Compare, Level, Tail, Primary, MaybeCell, LenOpen, LenName, sign_code, choice, optional, skip, past, step, finish, after, build}
+use Rattle.nona_grammar.specs.Grammar.{IsLevel, IsExpr, IsBlock, plain-is, number-is, primary-is, lower-is, level-is, print-is, block-is, no-more}
 use Rattle.nona_grammar.specs.Faults.{FirstFault, IsText, FaultAt}
 use Rattle.nona_grammar.proofs.Machining.{took, passed, acted}
-use Rattle.nona_grammar.proofs.Complete.{Calm, CalmToken, past_tail, closes, primary_built, level_built, expr_built}
-use Rattle.nona_grammar.proofs.Programs.{stmt_built, block_built, program_complete, program_sound}
+use Rattle.nona_grammar.proofs.Meaning.{array_of}
+use Rattle.nona_grammar.proofs.Complete.{Calm, CalmToken, past_tail, past_compare, past_cell, closes, primary_built, index_built, level_built, expr_built}
+use Rattle.nona_grammar.proofs.Programs.{NoElse, NoElseToken, past_else, stmt_built, block_built, program_complete, program_sound}
 use Rattle.nona_grammar.proofs.Kept.{Mild, AllMild, Kept, LeftKept, mild_map, mild_kept, kept_step}
 
 -- what is to come takes the tokens to the end of the text
@@ -32,6 +33,7 @@ Accepts end k v ss = (out : Trees) × (build end k v ss ≡ Ok out)
 abbrev SoftToken : Token → Type 0
 SoftToken (token.Number n) = Unit {0}
 SoftToken (token.Word w.In) = Unit {0}
+SoftToken (token.Sign s.OpenIndex) = ⊥
 SoftToken (token.Sign x) = Unit {0}
 SoftToken _ = ⊥
 
@@ -52,25 +54,44 @@ zero_to later = number (pos 0) 0 ∷ later
 abbrev no_stmts_to : List Spot → List Spot
 no_stmts_to later = sign s.OpenBlock 0 ∷ sign s.CloseBlock 0 ∷ later
 
+-- an expression and its end before later tokens
+abbrev ended_to : List Spot → List Spot
+ended_to later = zero_to (sign s.Semicolon 0 ∷ later)
+
+-- a loop behind the word `for` before later tokens
+abbrev loop_to : List Spot → List Spot
+loop_to later = name [] 0 ∷ word w.In 0 ∷ zero_to (sign s.Range 0 ∷ zero_to (no_stmts_to later))
+
 -- the shortest text of a symbol, before later tokens
 abbrev filled : Sym → List Spot → List Spot
 filled (Do a) later = later
 filled (Want x) later = sign x 0 ∷ later
 filled In later = word w.In 0 ∷ later
 filled Decls later = later
+filled ArrayName later = name [] 0 ∷ sign s.OpenIndex 0 ∷ zero_to (sign s.CloseIndex 0 ∷ sign s.Semicolon 0 ∷ later)
+filled (CellsOpen n a) later = sign s.OpenIndex 0 ∷ zero_to later
+filled (Cells n a) later = zero_to later
 filled VarName later = name [] 0 ∷ sign s.Semicolon 0 ∷ later
 filled (Init n a) later = sign s.Semicolon 0 ∷ later
 filled (InitNumber n a) later = zero_to later
 filled Stmts later = later
-filled Statement later = word w.Print 0 ∷ zero_to (sign s.Semicolon 0 ∷ later)
-filled (AfterName n a) later = sign s.Set 0 ∷ zero_to (sign s.Semicolon 0 ∷ later)
-filled (ForName seq a) later = name [] 0 ∷ word w.In 0 ∷ zero_to (sign s.Range 0 ∷ zero_to (no_stmts_to later))
-filled Bound later = zero_to later
+filled Statement later = word w.Print 0 ∷ ended_to later
+filled LetName later = name [] 0 ∷ sign s.Set 0 ∷ ended_to later
+filled (AfterName n a) later = sign s.Set 0 ∷ ended_to later
+filled AfterCell later = sign s.Set 0 ∷ ended_to later
+filled Else later = later
+filled ForWord later = word w.For 0 ∷ loop_to later
+filled (ForName seq a) later = loop_to later
 filled Block later = no_stmts_to later
+filled (Index n a) later = zero_to later
 filled Whole later = zero_to later
+filled Compare later = later
 filled (Level m) later = zero_to later
 filled (Tail m) later = later
 filled Primary later = zero_to later
+filled (MaybeCell n a) later = later
+filled LenOpen later = sign s.Open 0 ∷ name [] 0 ∷ later
+filled LenName later = name [] 0 ∷ later
 
 -- the shortest text of all that is to come
 abbrev completion : List Sym → List Spot
@@ -80,12 +101,21 @@ completion (a ∷ k) = filled a (completion k)
 -- a symbol that may stand behind others has a soft text
 soft_filled : (a : Sym) (later : List Spot) → Mild a (Soft later) → Soft (filled a later)
 soft_filled (Do a) later h = h
+soft_filled (Want s.OpenIndex) later h = absurd h
 soft_filled Decls later h = h
-soft_filled Stmts later h = h
-soft_filled (Tail m) later h = h
+soft_filled ArrayName later h = absurd h
+soft_filled (CellsOpen n a) later h = absurd h
 soft_filled VarName later h = absurd h
+soft_filled Stmts later h = h
 soft_filled Statement later h = absurd h
+soft_filled LetName later h = absurd h
+soft_filled Else later h = h
+soft_filled ForWord later h = absurd h
 soft_filled (ForName seq a) later h = absurd h
+soft_filled Compare later h = h
+soft_filled (Tail m) later h = h
+soft_filled (MaybeCell n a) later h = h
+soft_filled LenName later h = absurd h
 soft_filled _ later h = tt
 
 -- and so have all of them
@@ -93,9 +123,10 @@ soft : (k : List Sym) → AllMild k → Soft (completion k)
 soft [] h = tt
 soft (a ∷ k) h = soft_filled a (completion k) (mild_map a (soft k) h)
 
--- a soft token is no operator
+-- a soft token is no operator, and opens no index
 calm_token : (m : ℕ) (t : Token) → SoftToken t → CalmToken m t
 calm_token m (token.Operator x) h = absurd h
+calm_token m (token.Sign s.OpenIndex) h = absurd h
 calm_token m _ h = tt
 
 -- so soft tokens end an expression of each level
@@ -103,15 +134,26 @@ soft_calm : (m : ℕ) (ss : List Spot) → Soft ss → Calm m ss
 soft_calm m [] h = tt
 soft_calm m (x ∷ ss) h = calm_token m x.token h
 
+-- a soft token is not the word `else`
+no_else_token : (t : Token) → SoftToken t → NoElseToken t
+no_else_token (token.Word w.Else) h = absurd h
+no_else_token _ h = tt
+
+-- so an if may end before soft tokens
+soft_no_else : (ss : List Spot) → Soft ss → NoElse ss
+soft_no_else [] h = tt
+soft_no_else (x ∷ ss) h = no_else_token x.token h
+
 -- a soft token begins no statement
 no_statement : (t : Token) (at : ℕ) → SoftToken t → Machine.statement t at ≡ None
 no_statement (token.Name n) at h = absurd h
-no_statement (token.Word w.For) at h = absurd h
-no_statement (token.Word w.Print) at h = absurd h
+no_statement (token.Word w.In) at h = refl
+no_statement (token.Word x) at h = absurd h
 no_statement _ at h = refl
 
 -- and no declaration
 no_decl : (t : Token) → SoftToken t → Machine.decls t ≡ None
+no_decl (token.Word w.Array) h = absurd h
 no_decl (token.Word w.Var) h = absurd h
 no_decl _ h = refl
 
@@ -132,7 +174,7 @@ zero_level (suc m) later = lower-is m (zero_to later) later nought (zero_level m
 
 -- 0 is an expression
 zero_expr : (later : List Spot) → IsExpr (zero_to later) later nought
-zero_expr later = level-is (zero_to later) later nought (zero_level 2 later)
+zero_expr later = level-is (zero_to later) later nought (zero_level loosest later)
 
 -- brackets with nothing between are a block
 no_block : (later : List Spot) → IsBlock (no_stmts_to later) later []
@@ -150,6 +192,25 @@ zero_var n a = Var (record { name = named n a; value = pos 0 })
 goes : {r q : Result Trees ℕ} → r ≡ q → (out : Trees) × (q ≡ Ok out) → (out : Trees) × (r ≡ Ok out)
 goes p h = (h.0, p ∙ h.1)
 
+-- an array of no cells
+abbrev zero_array : List ℕ → ℕ → Act
+zero_array n a = Array (array_of n a (pos 0, 0))
+
+-- a loop behind the word `for` is read
+looped : (end : ℕ) (seq : Bool) (a : ℕ) (k : List Sym) (v : Trees) (later : List Spot)
+    → build end (ForName seq a ∷ k) v (loop_to later) ≡ build end k (act (Each (named [] 0) seq a) (block [] (push nought (push nought v)))) later
+looped end seq a k v later =
+    let each = Each (named [] 0) seq a in
+    let bounds : Trees = push nought (push nought v) in
+    expr_built (zero_expr (sign s.Range 0 ∷ zero_to (no_stmts_to later))) end (Want s.Range ∷ Whole ∷ Block ∷ Do each ∷ k) v tt
+    ∙ expr_built (zero_expr (no_stmts_to later)) end (Block ∷ Do each ∷ k) (push nought v) tt
+    ∙ block_built (no_block later) end (Do each ∷ k) bounds ∙ acted end each k (block [] bounds) later
+
+-- an expression and what is made of it are read
+made : (end : ℕ) (a : Act) (k : List Sym) (v : Trees) (later : List Spot)
+    → build end (Whole ∷ Want s.Semicolon ∷ Do a ∷ k) v (ended_to later) ≡ build end k (act a (push nought v)) later
+made end a k v later = expr_built (zero_expr (sign s.Semicolon 0 ∷ later)) end (Want s.Semicolon ∷ Do a ∷ k) v tt ∙ acted end a k (push nought v) later
+
 -- some text completes whatever is to come
 completes : (end : ℕ) (k : List Sym) (v : Trees) → Kept k → Accepts end k v (completion k)
 completes end [] v h = (v, refl)
@@ -157,6 +218,11 @@ completes end (Do a ∷ k) v h = goes (acted end a k v (completion k)) (complete
 completes end (Want x ∷ k) v h = goes (want_is end x k v (completion k)) (completes end k v (mild_kept k h))
 completes end (In ∷ k) v h = completes end k v (mild_kept k h)
 completes end (Decls ∷ k) v h = goes (past_decls end k v (completion k) (soft k h)) (completes end k v (mild_kept k h))
+completes end (ArrayName ∷ k) v h =
+    goes (acted end (zero_array [] 0) (Want s.CloseIndex ∷ Want s.Semicolon ∷ k) v (sign s.CloseIndex 0 ∷ sign s.Semicolon 0 ∷ completion k))
+    (completes end k _ (mild_kept k h))
+completes end (CellsOpen n a ∷ k) v h = goes (acted end (zero_array n a) k v (completion k)) (completes end k _ (mild_kept k h))
+completes end (Cells n a ∷ k) v h = goes (acted end (zero_array n a) k v (completion k)) (completes end k _ (mild_kept k h))
 completes end (VarName ∷ k) v h = goes (acted end (zero_var [] 0) k v (completion k)) (completes end k _ (mild_kept k h))
 completes end (Init n a ∷ k) v h = goes (acted end (zero_var n a) k v (completion k)) (completes end k _ (mild_kept k h))
 completes end (InitNumber n a ∷ k) v h = goes (acted end (zero_var n a) k v (completion k)) (completes end k _ (mild_kept k h))
@@ -164,25 +230,30 @@ completes end (Stmts ∷ k) v h = goes (past_stmts end k v (completion k) (soft 
 completes end (Statement ∷ k) v h =
     let later = completion k in
     let ending = sign s.Semicolon 0 ∷ later in
-    goes (stmt_built (print-is 0 0 (zero_to ending) later nought (zero_expr ending)) end k v) (completes end k _ (mild_kept k h))
-completes end (AfterName n a ∷ k) v h =
-    goes (expr_built (zero_expr (sign s.Semicolon 0 ∷ completion k)) end (Want s.Semicolon ∷ Do (Assign (named n a)) ∷ k) v tt
-    ∙ acted end (Assign (named n a)) k (push nought v) (completion k)) (completes end k _ (mild_kept k h))
-completes end (ForName seq a ∷ k) v h =
-    let each = Each (named [] 0) seq a in
-    let low = push nought v in
-    let high = push nought low in
-    goes (acted end (Leaf nought) (Block ∷ Do each ∷ k) low (no_stmts_to (completion k)) ∙ block_built (no_block (completion k)) end (Do each ∷ k) high
-    ∙ acted end each k (block [] high) (completion k)) (completes end k _ (mild_kept k h))
-completes end (Bound ∷ k) v h = goes (acted end (Leaf nought) k v (completion k)) (completes end k _ (mild_kept k h))
+    goes (stmt_built (print-is 0 0 (zero_to ending) later nought (zero_expr ending)) end k v (soft_no_else later (soft k h))) (completes end k _ (mild_kept k h))
+completes end (LetName ∷ k) v h = goes (made end (Bind (named [] 0)) k v (completion k)) (completes end k _ (mild_kept k h))
+completes end (AfterName n a ∷ k) v h = goes (made end (Assign (named n a)) k v (completion k)) (completes end k _ (mild_kept k h))
+completes end (AfterCell ∷ k) v h = goes (made end (Store None) k v (completion k)) (completes end k _ (mild_kept k h))
+completes end (Else ∷ k) v h = goes (past_else end k v (completion k) (soft_no_else (completion k) (soft k h))) (completes end k _ (mild_kept k h))
+completes end (ForWord ∷ k) v h = goes (looped end true 0 k v (completion k)) (completes end k _ (mild_kept k h))
+completes end (ForName seq a ∷ k) v h = goes (looped end seq a k v (completion k)) (completes end k _ (mild_kept k h))
 completes end (Block ∷ k) v h = goes (block_built (no_block (completion k)) end k v) (completes end k _ (mild_kept k h))
-completes end (Whole ∷ k) v h = goes (expr_built (zero_expr (completion k)) end k v (soft_calm 3 (completion k) (soft k h))) (completes end k _ (mild_kept k h))
+completes end (Index n a ∷ k) v h =
+    let later = completion k in
+    goes (index_built (plain-is (zero_to later) later nought (zero_expr later)) end n a k v (soft_calm 8 later (soft k h))) (completes end k _ (mild_kept k h))
+completes end (Whole ∷ k) v h = goes (expr_built (zero_expr (completion k)) end k v (soft_calm 8 (completion k) (soft k h))) (completes end k _ (mild_kept k h))
+completes end (Compare ∷ k) v h = goes (past_compare end k v (completion k) (soft_calm 8 (completion k) (soft k h))) (completes end k v (mild_kept k h))
 completes end (Level m ∷ k) v h =
     goes (level_built (zero_level m (completion k)) end k v (soft_calm m (completion k) (soft k h))
     ∙ closes end m k (push nought v) (completion k) (soft_calm (suc m) (completion k) (soft k h))) (completes end k _ (mild_kept k h))
 completes end (Tail m ∷ k) v h =
     goes (past_tail end m k v (completion k) (soft_calm (suc (suc m)) (completion k) (soft k h))) (completes end k v (mild_kept k h))
-completes end (Primary ∷ k) v h = goes (primary_built (number-is (pos 0) 0 (completion k)) end k v) (completes end k _ (mild_kept k h))
+completes end (Primary ∷ k) v h =
+    goes (primary_built (number-is (pos 0) 0 (completion k)) end k v (soft_calm 0 (completion k) (soft k h))) (completes end k _ (mild_kept k h))
+completes end (MaybeCell n a ∷ k) v h =
+    goes (past_cell end n a 0 k v (completion k) (soft_calm 0 (completion k) (soft k h))) (completes end k _ (mild_kept k h))
+completes end (LenOpen ∷ k) v h = goes (acted end (Leaf (expr.Len (named [] 0))) k v (completion k)) (completes end k _ (mild_kept k h))
+completes end (LenName ∷ k) v h = goes (acted end (Leaf (expr.Len (named [] 0))) k v (completion k)) (completes end k _ (mild_kept k h))
 
 -- ---- faults
 

@@ -7,17 +7,24 @@ use Rattle.nona_lex.specs.declared.tokens.Sign.TheVariants as s
 use Rattle.nona_lex.specs.declared.tokens.Token.{Token}
 use Rattle.nona_lex.specs.declared.tokens.Token.TheVariants as token
 use Rattle.nona_lex.specs.declared.tokens.Spot.{Spot}
+use Rattle.nona_lex.specs.declared.tokens.Operator.TheVariants as operator
 use Rattle.nona_tree.specs.declared.trees.Op.{Op}
-use Rattle.nona_grammar.specs.Levels.{op_of, level}
-use Rattle.nona_grammar.specs.Stack.{Trees, Join}
+use Rattle.nona_grammar.specs.Levels.{named, op_of, level, loosest, comparisons}
+use Rattle.nona_grammar.specs.Stack.{Trees, Join, Reach}
 use Rattle.nona_grammar.specs.Machine
-use Rattle.nona_grammar.specs.Machine.{Sym, Do, Want, In, Decls, VarName, Init, InitNumber, Stmts, Statement, AfterName, ForName, Bound, Block, Whole, Level, Tail, Primary, sign_code, behind, choice, level_next, next, optional, skip, past, chosen, step}
+use Rattle.nona_grammar.specs.Machine.{Sym, Do, Want, In, Decls, ArrayName, CellsOpen, Cells, VarName, Init, InitNumber, Stmts, Statement, LetName, AfterName, AfterCell, Else, ForWord, ForName, Block, Index, Whole, Compare, Level, Tail, Primary, MaybeCell, LenOpen, LenName, sign_code, behind, choice, level_next, next, optional, skip, past, chosen, step}
 
--- what is known where a symbol may stand behind others: not those whose text begins as a statement does
+-- what is known where a symbol may stand behind others: not those whose text begins as a statement or an index does, or with a name
 abbrev pub Mild : Sym → Type 0 → Type 0
+Mild (Want s.OpenIndex) X = ⊥
+Mild ArrayName X = ⊥
+Mild (CellsOpen n a) X = ⊥
 Mild VarName X = ⊥
 Mild Statement X = ⊥
+Mild LetName X = ⊥
+Mild ForWord X = ⊥
 Mild (ForName seq at) X = ⊥
+Mild LenName X = ⊥
 Mild _ X = X
 
 -- all of them may stand behind others
@@ -37,16 +44,28 @@ KeptIf (Some new) = Kept new
 
 -- what follows from what is known holds of a symbol that may stand behind others too
 pub mild_map : {X Y : Type 0} (a : Sym) → (X → Y) → Mild a X → Mild a Y
+mild_map (Want s.OpenIndex) f h = h
+mild_map ArrayName f h = h
+mild_map (CellsOpen n a) f h = h
 mild_map VarName f h = h
 mild_map Statement f h = h
+mild_map LetName f h = h
+mild_map ForWord f h = h
 mild_map (ForName seq at) f h = h
+mild_map LenName f h = h
 mild_map _ f h = f h
 
 -- what is known of a symbol that may stand behind others is so
 mild_known : {X : Type 0} (a : Sym) → Mild a X → X
+mild_known (Want s.OpenIndex) h = absurd h
+mild_known ArrayName h = absurd h
+mild_known (CellsOpen n a) h = absurd h
 mild_known VarName h = absurd h
 mild_known Statement h = absurd h
+mild_known LetName h = absurd h
+mild_known ForWord h = absurd h
 mild_known (ForName seq at) h = absurd h
+mild_known LenName h = absurd h
 mild_known _ h = h
 
 -- where all may stand behind others, those behind the first may
@@ -85,13 +104,24 @@ kept_want x _ = tt
 kept_primary : (t : Token) (at : ℕ) → KeptIf (Machine.primary t at)
 kept_primary (token.Number n) at = tt
 kept_primary (token.Name n) at = tt
+kept_primary (token.Word w.Len) at = tt
 kept_primary (token.Sign s.Open) at = tt
 kept_primary _ at = tt
 
+-- behind a sign before a primary
+kept_unary : (t : Token) (at : ℕ) → KeptIf (Machine.unary t at)
+kept_unary (token.Operator operator.Sub) at = tt
+kept_unary (token.Operator operator.Not) at = tt
+kept_unary t at = kept_primary t at
+
 -- behind a level comes its tail
 kept_level : (m : ℕ) (t : Token) (at : ℕ) → KeptIf (level_next m t at)
-kept_level zero t at = kept_primary t at
+kept_level zero t at = kept_unary t at
 kept_level (suc m) t at = kept_behind (level_next m t at) (Tail m) tt (kept_level m t at)
+
+-- behind the loosest level comes what may be compared
+kept_whole : (t : Token) (at : ℕ) → KeptIf (Machine.whole t at)
+kept_whole t at = kept_behind (level_next loosest t at) Compare tt (kept_level loosest t at)
 
 -- behind an operator come an operand, the join and a tail
 kept_joins : (m : ℕ) (o : Option Op) (at : ℕ) → KeptIf (Machine.joins m o at)
@@ -103,18 +133,74 @@ kept_tail : (m : ℕ) (t : Token) (at : ℕ) → KeptIf (Machine.tail m t at)
 kept_tail m (token.Operator x) at = kept_joins m (op_of x) at
 kept_tail m _ at = tt
 
+-- behind a comparison come an operand and the join
+kept_compares : (o : Option Op) (at : ℕ) → KeptIf (Machine.compares o at)
+kept_compares (Some o) at = kept_choice (eqb (level o) comparisons) (Some (Level loosest ∷ Do (Join o at) ∷ [])) tt
+kept_compares None at = tt
+
+-- and no other token is compared by
+kept_compare : (t : Token) (at : ℕ) → KeptIf (Machine.compare t at)
+kept_compare (token.Operator x) at = kept_compares (op_of x) at
+kept_compare _ at = tt
+
+-- behind an index comes the place of a cell
+kept_index : (n : List ℕ) (a : ℕ) (t : Token) (at : ℕ) → KeptIf (Machine.index n a t at)
+kept_index n a (token.Word w.Wrap) at = tt
+kept_index n a t at = kept_behind (Machine.whole t at) (Do (Reach (named n a) false)) tt (kept_whole t at)
+
+-- behind the opening of an index
+kept_maybe_cell : (n : List ℕ) (a : ℕ) (t : Token) → KeptIf (Machine.maybe_cell n a t)
+kept_maybe_cell n a (token.Sign s.OpenIndex) = tt
+kept_maybe_cell n a _ = tt
+
+-- behind the bracket of a length
+kept_len_open : (t : Token) → KeptIf (Machine.len_open t)
+kept_len_open (token.Sign s.Open) = tt
+kept_len_open _ = tt
+
+-- behind the name of a length
+kept_len_name : (t : Token) (at : ℕ) → KeptIf (Machine.len_name t at)
+kept_len_name (token.Name n) at = tt
+kept_len_name _ at = tt
+
 -- what is to come behind the first token of a statement
 kept_statement : (t : Token) (at : ℕ) → KeptIf (Machine.statement t at)
 kept_statement (token.Name n) at = tt
+kept_statement (token.Word w.Let) at = tt
+kept_statement (token.Word w.If) at = tt
+kept_statement (token.Word w.While) at = tt
 kept_statement (token.Word w.For) at = tt
+kept_statement (token.Word w.Seq) at = tt
 kept_statement (token.Word w.Print) at = tt
 kept_statement _ at = tt
+
+-- behind the name of a scalar that is declared
+kept_let_name : (t : Token) (at : ℕ) → KeptIf (Machine.let_name t at)
+kept_let_name (token.Name n) at = tt
+kept_let_name _ at = tt
 
 -- behind the name of an assignment
 kept_after_name : (n : List ℕ) (a : ℕ) (t : Token) → KeptIf (Machine.after_name n a t)
 kept_after_name n a (token.Sign s.Set) = tt
 kept_after_name n a (token.Fold f) = tt
+kept_after_name n a (token.Sign s.OpenIndex) = tt
 kept_after_name n a _ = tt
+
+-- behind the cell of an assignment
+kept_after_cell : (t : Token) → KeptIf (Machine.after_cell t)
+kept_after_cell (token.Sign s.Set) = tt
+kept_after_cell (token.Fold f) = tt
+kept_after_cell _ = tt
+
+-- behind the word `else`
+kept_else : (t : Token) → KeptIf (Machine.else_next t)
+kept_else (token.Word w.Else) = tt
+kept_else _ = tt
+
+-- behind the word `for` of a loop in order
+kept_for_word : (t : Token) (at : ℕ) → KeptIf (Machine.for_word t at)
+kept_for_word (token.Word w.For) at = tt
+kept_for_word _ at = tt
 
 -- behind the index of a loop
 kept_for_name : (seq : Bool) (a : ℕ) (t : Token) (at : ℕ) → KeptIf (Machine.for_name seq a t at)
@@ -126,33 +212,44 @@ kept_in : (t : Token) → KeptIf (Machine.in_word t)
 kept_in (token.Word w.In) = tt
 kept_in _ = tt
 
--- behind a bound
-kept_bound : (t : Token) → KeptIf (Machine.bound t)
-kept_bound (token.Number n) = tt
-kept_bound _ = tt
-
 -- behind the opening of a block
 kept_block : (t : Token) → KeptIf (Machine.block_next t)
 kept_block (token.Sign s.OpenBlock) = tt
 kept_block _ = tt
 
--- behind the word `var`
+-- behind the word that begins a declaration
 kept_decls : (t : Token) → KeptIf (Machine.decls t)
+kept_decls (token.Word w.Array) = tt
 kept_decls (token.Word w.Var) = tt
 kept_decls _ = tt
 
--- behind a declaration's name
+-- behind an array's name
+kept_array_name : (t : Token) (at : ℕ) → KeptIf (Machine.array_name t at)
+kept_array_name (token.Name n) at = tt
+kept_array_name _ at = tt
+
+-- behind the bracket before the number of its cells
+kept_cells_open : (n : List ℕ) (a : ℕ) (t : Token) → KeptIf (Machine.cells_open n a t)
+kept_cells_open n a (token.Sign s.OpenIndex) = tt
+kept_cells_open n a _ = tt
+
+-- behind that number
+kept_cells : (n : List ℕ) (a : ℕ) (t : Token) (at : ℕ) → KeptIf (Machine.cells n a t at)
+kept_cells n a (token.Number m) at = tt
+kept_cells n a _ at = tt
+
+-- behind a variable's name
 kept_var_name : (t : Token) (at : ℕ) → KeptIf (Machine.var_name t at)
 kept_var_name (token.Name n) at = tt
 kept_var_name _ at = tt
 
--- behind what a declaration's name is followed by
+-- behind what a variable's name is followed by
 kept_init : (n : List ℕ) (a : ℕ) (t : Token) → KeptIf (Machine.init n a t)
 kept_init n a (token.Sign s.Semicolon) = tt
 kept_init n a (token.Sign s.Set) = tt
 kept_init n a _ = tt
 
--- behind a declaration's number
+-- behind a variable's number
 kept_init_number : (n : List ℕ) (a : ℕ) (t : Token) → KeptIf (Machine.init_number n a t)
 kept_init_number n a (token.Number m) = tt
 kept_init_number n a _ = tt
@@ -163,19 +260,30 @@ kept_next (Do a) x = tt
 kept_next (Want a) x = kept_want a x.token
 kept_next In x = kept_in x.token
 kept_next Decls x = kept_decls x.token
+kept_next ArrayName x = kept_array_name x.token x.at
+kept_next (CellsOpen n a) x = kept_cells_open n a x.token
+kept_next (Cells n a) x = kept_cells n a x.token x.at
 kept_next VarName x = kept_var_name x.token x.at
 kept_next (Init n a) x = kept_init n a x.token
 kept_next (InitNumber n a) x = kept_init_number n a x.token
 kept_next Stmts x = kept_behind (Machine.statement x.token x.at) Stmts tt (kept_statement x.token x.at)
 kept_next Statement x = kept_statement x.token x.at
+kept_next LetName x = kept_let_name x.token x.at
 kept_next (AfterName n a) x = kept_after_name n a x.token
+kept_next AfterCell x = kept_after_cell x.token
+kept_next Else x = kept_else x.token
+kept_next ForWord x = kept_for_word x.token x.at
 kept_next (ForName seq a) x = kept_for_name seq a x.token x.at
-kept_next Bound x = kept_bound x.token
 kept_next Block x = kept_block x.token
-kept_next Whole x = kept_level 2 x.token x.at
+kept_next (Index n a) x = kept_index n a x.token x.at
+kept_next Whole x = kept_whole x.token x.at
+kept_next Compare x = kept_compare x.token x.at
 kept_next (Level m) x = kept_level m x.token x.at
 kept_next (Tail m) x = kept_tail m x.token x.at
 kept_next Primary x = kept_primary x.token x.at
+kept_next (MaybeCell n a) x = kept_maybe_cell n a x.token
+kept_next LenOpen x = kept_len_open x.token
+kept_next LenName x = kept_len_name x.token x.at
 
 -- ---- steps
 

@@ -6,3 +6,5 @@ pub mod Complete
 pub mod Programs
 pub mod Kept
 pub mod Exact
+pub mod Sizes
+pub mod Nesting

@@ -4,7 +4,7 @@ use Rattle.std.specs.declared.option.Option.{Option}
 use Rattle.nona_lex.specs.declared.tokens.Spot.{Spot}
 use Rattle.nona_grammar.specs.Levels.{loosest}
 use Rattle.nona_grammar.specs.Stack.{Trees, Act, act}
-use Rattle.nona_grammar.specs.Machine.{Sym, Do, Level, Tail, Whole, behind, next, level_next, optional, skip, past, chosen, step, after, build}
+use Rattle.nona_grammar.specs.Machine.{Sym, Do, Level, Tail, Whole, Compare, behind, next, level_next, optional, skip, past, chosen, step, after, build}
 
 -- a token that the first symbol takes
 pub took : (end : ℕ) (a : Sym) (k : List Sym) (v : Trees) (s : Spot) (ss : List Spot) (new : List Sym) → next a s ≡ Some new
@@ -33,7 +33,7 @@ pub level_is : (end m : ℕ) (k : List Sym) (v : Trees) (ss : List Spot) → bui
 level_is end m k v [] = refl
 level_is end m k v (s ∷ ss) = ap (λ o. after o s.at (λ l u. build end l u ss)) (behind_chosen (level_next m s.token s.at) (Tail m) k v)
 
--- an expression is the loosest level
-pub whole_is : (end : ℕ) (k : List Sym) (v : Trees) (ss : List Spot) → build end (Whole ∷ k) v ss ≡ build end (Level loosest ∷ k) v ss
+-- an expression is one of the loosest level and what may stand behind it
+pub whole_is : (end : ℕ) (k : List Sym) (v : Trees) (ss : List Spot) → build end (Whole ∷ k) v ss ≡ build end (Level loosest ∷ Compare ∷ k) v ss
 whole_is end k v [] = refl
-whole_is end k v (s ∷ ss) = refl
+whole_is end k v (s ∷ ss) = ap (λ o. after o s.at (λ l u. build end l u ss)) (behind_chosen (level_next loosest s.token s.at) Compare k v)

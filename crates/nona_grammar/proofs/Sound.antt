@@ -1,15 +1,18 @@
 -- What the machine reads to its end, the grammar has.
-use Rattle.std.proofs.Common.{◌≡◌, ℕ, List, [], ◌∷◌, refl, sym, subst, Some, None, Ok, Err, Bool, true, false, ap, append-nil}
+use Rattle.std.proofs.Common.{◌≡◌, ℕ, List, [], ◌∷◌, ◌++◌, refl, sym, subst, Some, None, Ok, Err, Bool, true, false, ap, append-nil}
 use Rattle.std.specs.declared.option.Option.{Option}
 use Rattle.std.specs.declared.result.Result.{Result}
 use Rattle.nona_lex.specs.declared.tokens.Spot.{Spot}
 use Rattle.nona_tree.specs.declared.trees.Expr.{Expr}
+use Rattle.nona_tree.specs.declared.trees.Expr.TheVariants as expr
 use Rattle.nona_tree.specs.declared.trees.Stmt.{Stmt}
+use Rattle.nona_tree.specs.declared.trees.ArrayDecl.{ArrayDecl}
 use Rattle.nona_tree.specs.declared.trees.VarDecl.{VarDecl}
-use Rattle.nona_grammar.specs.Stack.{Trees, more_of}
-use Rattle.nona_grammar.specs.Machine.{Sym, Do, Decls, Stmts, Tail, next, optional, skip, past, chosen, step, finish, after, build}
-use Rattle.nona_grammar.specs.Grammar.{no-more, no-decl}
-use Rattle.nona_grammar.proofs.Meaning.{Then, Means, AllMean, Taken, top_of, all_append}
+use Rattle.nona_grammar.specs.Levels.{named}
+use Rattle.nona_grammar.specs.Stack.{Trees, more_of, one_of}
+use Rattle.nona_grammar.specs.Machine.{Sym, Do, Decls, Stmts, Else, Compare, Tail, MaybeCell, next, optional, skip, past, chosen, step, finish, after, build}
+use Rattle.nona_grammar.specs.Grammar.{scalar-is, level-is, no-more, no-else, no-decl}
+use Rattle.nona_grammar.proofs.Meaning.{Then, Means, AllMean, Taken, all_append}
 use Rattle.nona_grammar.proofs.Taking.{means_taken}
 
 -- no statements change nothing
@@ -18,9 +21,9 @@ adds_none [] = refl
 adds_none (b ∷ bs) = ap (λ (m : List Stmt). m ∷ bs) (append-nil b)
 
 -- an expression that is not changed is the same
-top_same : (es : List Expr) → top_of (λ a. a) es ≡ es
-top_same [] = refl
-top_same (e ∷ es) = refl
+one_same : (es : List Expr) → one_of (λ a. a) es ≡ es
+one_same [] = refl
+one_same (e ∷ es) = refl
 
 -- what is known where a symbol may stand for no token
 abbrev OnlyIf : Bool → Type 0 → Type 0
@@ -30,9 +33,19 @@ OnlyIf false X = ⊥
 -- a symbol that may stand for no token means that too
 means_none : (a : Sym) (v : Trees) (ss : List Spot) (q : Then) → OnlyIf (optional a) (q (skip a v) ss) → Means a v ss q
 means_none (Do a) v ss q g = g
-means_none Decls v ss q g = ([], ss, no-decl ss, subst (λ (l : List VarDecl). q (record v { vars = l }) ss) (sym (append-nil v.vars)) g)
+means_none Decls v ss q g = (
+  ([], []),
+  ss,
+  no-decl ss,
+  subst (λ (l : List ArrayDecl). q (record v { arrays = l; vars = v.vars ++ [] }) ss) (sym (append-nil v.arrays))
+      (subst (λ (l : List VarDecl). q (record v { vars = l }) ss) (sym (append-nil v.vars)) g),
+)
 means_none Stmts v ss q g = ([], ss, no-more ss, subst (λ (bs : List (List Stmt)). q (record v { blocks = bs }) ss) (sym (adds_none v.blocks)) g)
-means_none (Tail m) v ss q g = (λ a. a, ss, λ before a d. d, subst (λ (es : List Expr). q (record v { exprs = es }) ss) (sym (top_same v.exprs)) g)
+means_none Else v ss q g = ([], ss, no-else ss, g)
+means_none Compare v ss q g =
+    (λ a. a, ss, λ before a d. level-is before ss a d, subst (λ (es : List Expr). q (record v { exprs = es }) ss) (sym (one_same v.exprs)) g)
+means_none (MaybeCell n a) v ss q g = (expr.Scalar (named n a), ss, scalar-is n a ss, g)
+means_none (Tail m) v ss q g = (λ a. a, ss, λ before a d. d, subst (λ (es : List Expr). q (record v { exprs = es }) ss) (sym (one_same v.exprs)) g)
 means_none _ v ss q g = absurd g
 
 -- what a step leaves, where there is one

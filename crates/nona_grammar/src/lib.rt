@@ -1,12 +1,15 @@
 //! The grammar: which tokens are which program.
 //!
 //! `specs/Grammar.antt` states it as relations between tokens and trees. `specs/Machine.antt` reads tokens once from
-//! left to right. `specs/Faults.antt` says where tokens stop being a program. The two functions do nothing when they
-//! are called: their contracts are the laws of the three.
+//! left to right. `specs/Faults.antt` says where tokens stop being a program. The functions do nothing when they are
+//! called: their contracts are the laws of the three.
 #![tactic(auto)]
 
-ghost use Rattle.std.specs.Prelude.{◌≡◌, ℕ, List, [], ◌∷◌, Ok, Err};
+ghost use Rattle.std.specs.Prelude.{◌≡◌, ◌≤◌, ℕ, List, [], ◌∷◌, length, Ok, Err};
+ghost use Rattle.nona_lex.specs.Bounds.{bounded, bracket_bound};
 ghost use Rattle.nona_lex.specs.declared.tokens.Spot.{Spot};
+ghost use Rattle.nona_lex.specs.declared.tokens.Tokens.{Tokens};
+ghost use Rattle.nona_tree.specs.Smallness.{size_of, nesting_of};
 ghost use Rattle.nona_tree.specs.declared.trees.Program.{Program};
 ghost use Rattle.nona_grammar.specs.Faults.{FaultAt};
 ghost use Rattle.nona_grammar.specs.Grammar.{IsProgram};
@@ -23,4 +26,11 @@ pub fn grammar_is_read()
 /// Where the machine is stuck, the tokens before can still become a program, and with the one there they can't.
 pub fn fault_is_exact()
     ensures { (end : ℕ) (ss : List Spot) (at : ℕ) → build end (Decls ∷ Stmts ∷ []) empty ss ≡ Err at → FaultAt end ss at }
+{}
+
+/// A program has no more declarations, statements and expressions than tokens, since each has a token of its own. Its
+/// blocks are nested no deeper than brackets may be open, where the tokens end before one bracket too many.
+pub fn programs_are_small()
+    ensures size { (ss : List Spot) (p : Program) → IsProgram ss p → size_of p ≤ length ss }
+    ensures nesting { (tokens : Tokens) (p : Program) → IsProgram (bounded tokens).spots p → nesting_of p ≤ bracket_bound }
 {}

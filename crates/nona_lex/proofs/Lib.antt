@@ -3,3 +3,4 @@ pub mod Within
 pub mod Lexing
 pub mod Spelled
 pub mod Longest
+pub mod Few

@@ -1,5 +1,7 @@
-// The law of the longest match.
+// Laws of the tokens of every text.
 
+ghost use Rattle.std.specs.Prelude.{◌≤◌, ℕ, List, length};
+ghost use Rattle.nona_lex.specs.Bounds.{tokens_of};
 ghost use Rattle.nona_lex.specs.Laws.{FrontIsSpelled, FrontIsLongest, PiecesFollow};
 
 /// The longest match, for every text: where a token stands at the front, its bytes spell it, and no longer front of
@@ -9,4 +11,9 @@ pub fn longest_match()
     ensures spelled { FrontIsSpelled }
     ensures longest { FrontIsLongest }
     ensures onward { PiecesFollow }
+{}
+
+/// A text has no more tokens than bytes.
+pub fn tokens_are_few()
+    ensures { (text : List ℕ) → length (tokens_of text).spots ≤ length text }
 {}

@@ -13,6 +13,6 @@ mod pieces;
 mod tests;
 mod tokens;
 
-pub use law::longest_match;
+pub use law::{longest_match, tokens_are_few};
 pub use lexer::read_tokens;
 pub use tokens::{Cut, Fault, Keyword, Operator, Sign, Spot, Token, Tokens};

@@ -1,2 +1,4 @@
 pub mod Reading
 pub mod Steps
+pub mod Prefixes
+pub mod Declaring

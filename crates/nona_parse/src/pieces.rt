@@ -1,15 +1,18 @@
-// Single tokens. Here and in the files beside, `end` is the place of the text's end, and a fault stands at the first
-// token that fits nowhere, or at `end` where the tokens end too early.
+// Single tokens. Here and in the files beside, a fault is that of the first token that fits nowhere, or that the tokens
+// end too early.
 
-ghost use Rattle.std.specs.Prelude.{◌≡◌, ◌<◌, ◌∷◌, [], List, Bool, ℕ, length, IfOk, MatchOption, MatchResult};
+ghost use Rattle.std.specs.Prelude.{◌≡◌, ◌<◌, ◌∷◌, [], List, Bool, true, ℕ, length, IfOk, MatchOption, MatchResult};
+ghost use Rattle.nona_tree.specs.declared.trees.Expr.TheVariants as expr;
 ghost use Rattle.nona_grammar.specs.Levels.{named};
-ghost use Rattle.nona_grammar.specs.Machine.{Want, In, VarName, Init, InitNumber, ForName, Bound, Block, Do, sign_code};
-ghost use Rattle.nona_grammar.specs.Stack.{Each, push};
-ghost use Rattle.nona_parse.specs.Steps.{Reads, Fails, Turns, same, declares};
+ghost use Rattle.nona_grammar.specs.Machine.{Want, In, ArrayName, CellsOpen, Cells, VarName, Init, InitNumber, LetName, ForWord, ForName, Whole, Block, LenName, Do, sign_code};
+ghost use Rattle.nona_grammar.specs.Stack.{Leaf, Bind, Each};
+ghost use Rattle.nona_parse.specs.Declaring.{declares_one};
+ghost use Rattle.nona_parse.specs.Steps.{Reads, Fails, Turns, same};
 
+use crate::declarations::Decl;
 use crate::fault::ReadFault;
 use nona_lex::{Keyword, Sign, Spot, Token};
-use nona_tree::{Expr, Name, Use};
+use nona_tree::{Name, Use};
 
 /// The first token and those behind it.
 pub fn split_first(spots: &[Spot]) -> Option<(&Spot, &[Spot])>
@@ -40,14 +43,14 @@ fn code_of(sign: Sign) -> u8
 }
 
 /// Takes this sign.
-pub fn sign(end: u32, wanted: Sign, spots: &[Spot]) -> Result<&[Spot], ReadFault>
+pub fn sign(wanted: Sign, spots: &[Spot]) -> Result<&[Spot], ReadFault>
     ensures shorter { IfOk result (λ rest. length rest.now < length spots.now) }
     ensures read { MatchResult result
-        (λ rest. Reads end (Want wanted ∷ []) spots.now same rest.now)
-        (λ fault. Fails fault end (Want wanted ∷ []) spots.now) }
+        (λ rest. Reads (Want wanted ∷ []) spots.now same rest.now)
+        (λ fault. Fails fault (Want wanted ∷ []) spots.now) }
 {
     match split_first(spots) {
-        None => Err(ReadFault::Syntax { at: end }),
+        None => Err(ReadFault::Ended),
         Some((first, later)) => match &first.token {
             Token::Sign(found) => {
                 if code_of(*found) == code_of(wanted) {
@@ -62,16 +65,32 @@ pub fn sign(end: u32, wanted: Sign, spots: &[Spot]) -> Result<&[Spot], ReadFault
 }
 
 /// Takes the word `in`.
-pub fn in_word(end: u32, spots: &[Spot]) -> Result<&[Spot], ReadFault>
+pub fn in_word(spots: &[Spot]) -> Result<&[Spot], ReadFault>
     ensures shorter { IfOk result (λ rest. length rest.now < length spots.now) }
     ensures read { MatchResult result
-        (λ rest. Reads end (In ∷ []) spots.now same rest.now)
-        (λ fault. Fails fault end (In ∷ []) spots.now) }
+        (λ rest. Reads (In ∷ []) spots.now same rest.now)
+        (λ fault. Fails fault (In ∷ []) spots.now) }
 {
     match split_first(spots) {
-        None => Err(ReadFault::Syntax { at: end }),
+        None => Err(ReadFault::Ended),
         Some((first, later)) => match &first.token {
             Token::Word(Keyword::In) => Ok(later),
+            _ => Err(ReadFault::Syntax { at: first.at }),
+        },
+    }
+}
+
+/// Takes the word `for` behind the word `seq`, and gives its place.
+pub fn for_word(spots: &[Spot]) -> Result<(u32, &[Spot]), ReadFault>
+    ensures shorter { IfOk result (λ x. length x.1.now < length spots.now) }
+    ensures read { MatchResult result
+        (λ x. Turns ForWord spots.now (ForName true x.0 ∷ []) x.1.now)
+        (λ fault. Fails fault (ForWord ∷ []) spots.now) }
+{
+    match split_first(spots) {
+        None => Err(ReadFault::Ended),
+        Some((first, later)) => match &first.token {
+            Token::Word(Keyword::For) => Ok((first.at, later)),
             _ => Err(ReadFault::Syntax { at: first.at }),
         },
     }
@@ -84,19 +103,29 @@ pub fn use_of(text: &Name, at: u32) -> Use
     Use::new(text.copy(), at)
 }
 
-/// Takes a name: that of a variable or that of a loop's index.
-pub fn name(end: u32, spots: &[Spot]) -> Result<(Use, &[Spot]), ReadFault>
+/// Takes a name where nothing else may stand: that of an array, a variable, a new scalar, the index of a loop, or the
+/// array whose length is asked for.
+pub fn name(spots: &[Spot]) -> Result<(Use, &[Spot]), ReadFault>
     ensures shorter { IfOk result (λ x. length x.1.now < length spots.now) }
     ensures named { IfOk result (λ x. x.0 ≡ named x.0.text x.0.at) }
+    ensures array { MatchResult result
+        (λ x. Turns ArrayName spots.now (CellsOpen x.0.text x.0.at ∷ Want Sign.CloseIndex ∷ Want Sign.Semicolon ∷ []) x.1.now)
+        (λ fault. Fails fault (ArrayName ∷ []) spots.now) }
     ensures variable { MatchResult result
         (λ x. Turns VarName spots.now (Init x.0.text x.0.at ∷ []) x.1.now)
-        (λ fault. Fails fault end (VarName ∷ []) spots.now) }
+        (λ fault. Fails fault (VarName ∷ []) spots.now) }
+    ensures scalar { MatchResult result
+        (λ x. Turns LetName spots.now (Want Sign.Set ∷ Whole ∷ Want Sign.Semicolon ∷ Do (Bind x.0) ∷ []) x.1.now)
+        (λ fault. Fails fault (LetName ∷ []) spots.now) }
     ensures index { (seq : Bool) (at : ℕ) → MatchResult result
-        (λ x. Turns (ForName seq at) spots.now (In ∷ Bound ∷ Want Sign.Range ∷ Bound ∷ Block ∷ Do (Each x.0 seq at) ∷ []) x.1.now)
-        (λ fault. Fails fault end (ForName seq at ∷ []) spots.now) }
+        (λ x. Turns (ForName seq at) spots.now (In ∷ Whole ∷ Want Sign.Range ∷ Whole ∷ Block ∷ Do (Each x.0 seq at) ∷ []) x.1.now)
+        (λ fault. Fails fault (ForName seq at ∷ []) spots.now) }
+    ensures measured { MatchResult result
+        (λ x. Turns LenName spots.now (Do (Leaf (expr.Len x.0)) ∷ []) x.1.now)
+        (λ fault. Fails fault (LenName ∷ []) spots.now) }
 {
     match split_first(spots) {
-        None => Err(ReadFault::Syntax { at: end }),
+        None => Err(ReadFault::Ended),
         Some((first, later)) => match &first.token {
             Token::Name(text) => Ok((use_of(text, first.at), later)),
             _ => Err(ReadFault::Syntax { at: first.at }),
@@ -104,20 +133,20 @@ pub fn name(end: u32, spots: &[Spot]) -> Result<(Use, &[Spot]), ReadFault>
     }
 }
 
-/// Takes a number: a bound of a loop or the value of a variable.
-pub fn number(end: u32, spots: &[Spot]) -> Result<(i64, &[Spot]), ReadFault>
-    ensures shorter { IfOk result (λ x. length x.1.now < length spots.now) }
-    ensures bound { MatchResult result
-        (λ x. Reads end (Bound ∷ []) spots.now (push (Expr.Number x.0)) x.1.now)
-        (λ fault. Fails fault end (Bound ∷ []) spots.now) }
+/// Takes a number where nothing else may stand, and gives its place: the cells of an array, or the value of a variable.
+pub fn number(spots: &[Spot]) -> Result<(i64, u32, &[Spot]), ReadFault>
+    ensures shorter { IfOk result (λ x. length x.2.now < length spots.now) }
+    ensures cells { (n : List ℕ) (at : ℕ) → MatchResult result
+        (λ x. Reads (Cells n at ∷ []) spots.now (declares_one (Decl.Array (record { name = named n at; cells = x.0; cells_at = x.1 }))) x.2.now)
+        (λ fault. Fails fault (Cells n at ∷ []) spots.now) }
     ensures value { (n : List ℕ) (at : ℕ) → MatchResult result
-        (λ x. Reads end (InitNumber n at ∷ []) spots.now (declares (record { name = named n at; value = x.0 } ∷ [])) x.1.now)
-        (λ fault. Fails fault end (InitNumber n at ∷ []) spots.now) }
+        (λ x. Reads (InitNumber n at ∷ []) spots.now (declares_one (Decl.Var (record { name = named n at; value = x.0 }))) x.2.now)
+        (λ fault. Fails fault (InitNumber n at ∷ []) spots.now) }
 {
     match split_first(spots) {
-        None => Err(ReadFault::Syntax { at: end }),
+        None => Err(ReadFault::Ended),
         Some((first, later)) => match &first.token {
-            Token::Number(n) => Ok((*n, later)),
+            Token::Number(n) => Ok((*n, first.at, later)),
             _ => Err(ReadFault::Syntax { at: first.at }),
         },
     }

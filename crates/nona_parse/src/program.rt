@@ -1,75 +1,111 @@
-ghost use Rattle.std.specs.Prelude.{◌≡◌, ◌≤◌, ◌^◌, ◌∷◌, [], ℕ, List, length, Ok, Err, IfOk, MatchResult};
+ghost use Rattle.std.specs.Prelude.{◌≡◌, ◌≤◌, ◌^◌, ◌∷◌, [], ◌⊎◌, ℕ, List, length, Ok, Err, IfOk, IfErr, MatchResult};
+ghost use Rattle.nona_tree.specs.Smallness.{IsSmall};
 ghost use Rattle.nona_tree.specs.declared.trees.Program.{Program};
 ghost use Rattle.nona_grammar.specs.Stack.{empty, whole_of};
 ghost use Rattle.nona_grammar.specs.Machine.{Decls, Stmts, build};
-ghost use Rattle.nona_parse.specs.Steps.{IsStuck};
-ghost use Rattle.nona_parse.specs.Reading.{IsReading};
+ghost use Rattle.nona_grammar.specs.Grammar.{IsProgram};
+ghost use Rattle.nona_lex.specs.Bounds.{tokens_of};
+ghost use Rattle.nona_parse.specs.Steps.{IsStuck, IsUnread, fault_of};
+ghost use Rattle.nona_parse.specs.Reading.{IsReading, IsRefusal};
 
+use crate::blocks::statements;
 use crate::declarations::declarations;
 use crate::fault::{ParseFault, ReadFault};
 use crate::pieces::split_first;
-use crate::statements::statements;
-use nona_grammar::grammar_is_read;
-use nona_lex::{Spot, read_tokens};
+use nona_grammar::{fault_is_exact, grammar_is_read, programs_are_small};
+use nona_lex::{Cut, Fault, Spot, read_tokens, tokens_are_few};
 use nona_tree::Program;
-use sqlite_items::Items;
 use std::alloc::Global;
 
 /// Reads the text of a program, of at most 2^20 bytes. The result is the one tree that the grammar gives the text; the
 /// names in it have the id 0, since they are not resolved. Takes time and memory in proportion to the text, and stack
-/// in proportion to the brackets that are open at once.
+/// in proportion to the brackets that are open at once, of which there are 64 at most.
 ///
-/// `Early` says that the text is no program of the language so far, and `NoMemory` that memory ran out before that was
-/// known.
+/// A text that is no program is refused for its first fault from the left. The only other refusal is `NoMemory`, after
+/// which the text may still be a program.
 pub fn parse(alloc: Global, text: &[u8]) -> Result<Program, ParseFault>
     requires { length text.now ≤ 2 ^ 20 }
     ensures reads { IfOk result (λ p. IsReading text.now p) }
-    ensures early { result ≡ Err ParseFault.Early → (p : Program) → IsReading text.now p → ⊥ }
+    ensures small { IfOk result (λ p. IsSmall p) }
+    ensures refused { IfErr result (λ fault. IsRefusal text.now fault) }
+    ensures every { (p : Program) → IsReading text.now p → (result ≡ Ok p) ⊎ (result ≡ Err ParseFault.NoMemory) }
 {
     grammar_is_read();
+    programs_are_small();
+    tokens_are_few();
     let end = text.len() as u32;
     let Ok(tokens) = read_tokens(alloc, text) else {
         return Err(ParseFault::NoMemory);
     };
-    match tokens.cut {
-        Some(_) => Err(ParseFault::Early),
-        None => match read_program(alloc, end, tokens.spots.as_slice()) {
-            Ok(program) => Ok(program),
-            Err(fault) => Err(without_place(fault)),
+    let read = read_program(alloc, tokens.spots.as_slice());
+    answer(end, tokens.cut, read)
+}
+
+/// The answer to a text that ends at `end`, by what its tokens were read as, and by their cut: a fault before the cut
+/// comes first.
+fn answer(
+    end: u32,
+    cut: Option<Cut>,
+    read: Result<Program, ReadFault>,
+) -> Result<Program, ParseFault>
+    ensures { (text : List ℕ) → end ≡ length text → cut ≡ (tokens_of text).cut
+        → MatchResult read (λ p. IsProgram (tokens_of text).spots p) (λ fault. IsUnread fault (tokens_of text).spots)
+        → MatchResult result (λ p. IsReading text p) (λ fault. IsRefusal text fault) }
+{
+    match read {
+        Ok(program) => match cut {
+            None => Ok(program),
+            Some(cut) => Err(cut_fault(cut)),
         },
+        Err(ReadFault::Ended) => match cut {
+            None => Err(ParseFault::Syntax { at: end }),
+            Some(cut) => Err(cut_fault(cut)),
+        },
+        Err(ReadFault::Syntax { at }) => Err(ParseFault::Syntax { at }),
+        Err(ReadFault::NoMemory) => Err(ParseFault::NoMemory),
     }
 }
 
-/// The refusal of a program for a fault of its tokens.
-fn without_place(fault: ReadFault) -> ParseFault
-    ensures { result ≡ ParseFault.Early → (at : ℕ) × (fault ≡ ReadFault.Syntax at) }
+/// The fault of a cut.
+fn cut_fault(cut: Cut) -> ParseFault
+    ensures { result ≡ fault_of cut.fault cut.at }
 {
-    match fault {
-        ReadFault::Syntax { .. } => ParseFault::Early,
-        ReadFault::NoMemory => ParseFault::NoMemory,
+    let at = cut.at;
+    match cut.fault {
+        Fault::Byte => ParseFault::Byte { at },
+        Fault::Number => ParseFault::Number { at },
+        Fault::NameLong => ParseFault::NameLong { at },
+        Fault::Deep => ParseFault::Deep { at },
     }
 }
 
-/// The program that these tokens are, of a text that ends at the place `end`.
-fn read_program(alloc: Global, end: u32, spots: &[Spot]) -> Result<Program, ReadFault>
-    ensures bare { IfOk result (λ p. p.arrays ≡ []) }
-    ensures built { MatchResult result
-        (λ p. build end (Decls ∷ Stmts ∷ []) empty spots.now ≡ Ok (whole_of p))
-        (λ fault. IsStuck fault end spots.now) }
+/// The program that these tokens are.
+fn read_program(alloc: Global, spots: &[Spot]) -> Result<Program, ReadFault>
+    ensures { MatchResult result (λ p. IsProgram spots.now p) (λ fault. IsUnread fault spots.now) }
 {
-    match declarations(alloc, end, spots) {
-        Ok((vars, rest)) => match statements(alloc, end, rest) {
-            Ok((body, behind)) => match split_first(behind) {
-                None => Ok(Program {
-                    arrays: Items::new(alloc),
-                    vars,
-                    body,
-                }),
-                Some((first, _)) => Err(ReadFault::Syntax { at: first.at }),
-            },
-            Err(fault) => Err(fault),
-        },
+    grammar_is_read();
+    fault_is_exact();
+    match build_program(alloc, spots) {
+        Ok(program) => Ok(program),
         Err(fault) => Err(fault),
+    }
+}
+
+/// The program that the machine makes of these tokens.
+fn build_program(alloc: Global, spots: &[Spot]) -> Result<Program, ReadFault>
+    ensures { MatchResult result
+        (λ p. (end : ℕ) → build end (Decls ∷ Stmts ∷ []) empty spots.now ≡ Ok (whole_of p))
+        (λ fault. IsStuck fault spots.now) }
+{
+    let (declared, rest) = declarations(alloc, spots)?;
+    let (body, behind) = statements(alloc, rest)?;
+    match split_first(behind) {
+        None => Ok(Program {
+            arrays: declared.arrays,
+            vars: declared.vars,
+            body,
+        }),
+        Some((first, _)) => Err(ReadFault::Syntax { at: first.at }),
     }
 }
 

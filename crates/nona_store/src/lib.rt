@@ -5,9 +5,11 @@
 #![tactic(auto)]
 
 mod cells;
+mod input;
 mod store;
 #[cfg(test)]
 mod tests;
 
 pub use cells::Cells;
+pub use input::{InputFault, read_numbers};
 pub use store::Store;

@@ -2,7 +2,7 @@
 ghost use Rattle.std.specs.Prelude.{◌≡◌, IfOk};
 ghost use Rattle.nona_store.specs.Arrays.{AreSized};
 
-use crate::{Cells, Store};
+use crate::{Cells, Store, read_numbers};
 use nona_tree::{ArrayDecl, Name, Program, Use, VarDecl};
 use sqlite_items::Items;
 use std::alloc::{AllocError, Global};
@@ -169,5 +169,48 @@ fn cells_are_made_and_copied(rt: HostRuntime) -> Result<(), Fail> {
     assert!(rt; cells.get(1) == 4 && copy.get(1) == 0);
     assert!(rt; cells.as_slice() == [0, 4].as_slice());
     assert!(rt; Cells::none(rt.alloc()).len() == 0);
+    Ok(())
+}
+
+/// The numbers of a text, or why it is refused.
+fn shown(rt: &impl Abort, alloc: Global, text: &[u8]) -> Result<String, AllocError> {
+    assert!(rt; text.len() < 100);
+    match read_numbers(alloc, text) {
+        Ok(numbers) => format!(in alloc; "{numbers:?}"),
+        Err(fault) => format!(in alloc; "{fault:?}"),
+    }
+}
+
+#[test]
+fn numbers_of_inputs(rt: HostRuntime) -> Result<(), Fail> {
+    let table: [(&[u8], &str); 20] = [
+        (b"", "[]"),
+        (b" \t\r\n", "[]"),
+        (b"5", "[5]"),
+        (b"1 -2\t3\r\n 04\n", "[1, -2, 3, 4]"),
+        (b"-0 007 -0000", "[0, 7, 0]"),
+        (
+            b"9223372036854775807 -9223372036854775808",
+            "[9223372036854775807, -9223372036854775808]",
+        ),
+        (b"1 9223372036854775808", "Token { at: 2 }"),
+        (b"\n-9223372036854775809", "Token { at: 1 }"),
+        (b"1 2x 3", "Token { at: 2 }"),
+        (b"1 - 1", "Token { at: 2 }"),
+        (b"- 1", "Token { at: 0 }"),
+        (b"--1", "Token { at: 0 }"),
+        (b"\t +1", "Token { at: 2 }"),
+        (b"1-2", "Token { at: 0 }"),
+        (b"1 2- 3x", "Token { at: 2 }"),
+        (b"1,2", "Token { at: 0 }"),
+        (b"# 1", "Token { at: 0 }"),
+        (b"1 \x00", "Token { at: 2 }"),
+        (b"1 2\xff", "Token { at: 2 }"),
+        (b"1\x0b2 \x80", "Token { at: 0 }"),
+    ];
+    for (text, want) in table {
+        let got = shown(&rt, rt.alloc(), text)?;
+        assert_eq!(rt; got.as_str(), want);
+    }
     Ok(())
 }

@@ -17,8 +17,6 @@ use Rattle.nona_tree.specs.Memory.{Memory, cells_of, cell_at}
 use Rattle.nona_tree.specs.Value.{then_use, from_test, is_zero, apply, place_of, value_of, cell_of}
 use Rattle.nona_tree.specs.Run.{run, run_row, run_all, with_value, then_do, block, turn, while_turns, for_turns}
 use Rattle.nona_tree.specs.Scope.{IsNamed, IsCellNamed, IsScoped, IsRowScoped, AreScoped, IsSteady, IsRowSteady, AreSteady, depth_after}
-use Rattle.nona_tree.specs.Names.{Visible, both, is_free, is_short, is_small_op, with_index, loop_with_ids, expr_with_ids, stmt_with_ids, row_with_ids, all_with_ids}
-use Rattle.nona_tree.specs.WellFormed.{IsSmallExpr, IsShort, IsWellFormed, IsRowWellFormed, AreWellFormed}
 
 pub value-Cell : (c : Access) (m : Memory)
     → value_of (Cell c) m
@@ -67,40 +65,6 @@ pub named-Binary : (op : Op) (at : ℕ) (left right : Expr) (depth arrays : ℕ)
     → IsNamed (Binary op at left right) depth arrays ≡ (IsNamed left depth arrays × IsNamed right depth arrays)
 unfolding hidden-the_row-Expr-1 hidden
 named-Binary op at left right depth arrays = refl
-
-pub small-Cell : (c : Access) (depth : ℕ) → IsSmallExpr (Cell c) depth ≡ ⊥
-unfolding hidden-the_row-Access-0 hidden
-small-Cell c depth = refl
-
-pub small-Neg : (e : Expr) (depth : ℕ) → IsSmallExpr (Neg e) depth ≡ ⊥
-unfolding hidden-the_row-Expr-1 hidden
-small-Neg e depth = refl
-
-pub small-Not : (e : Expr) (depth : ℕ) → IsSmallExpr (Not e) depth ≡ ⊥
-unfolding hidden-the_row-Expr-1 hidden
-small-Not e depth = refl
-
-pub small-Binary : (op : Op) (at : ℕ) (left right : Expr) (depth : ℕ)
-    → IsSmallExpr (Binary op at left right) depth ≡ (IsTrue (is_small_op op) × IsSmallExpr left depth × IsSmallExpr right depth)
-unfolding hidden-the_row-Expr-1 hidden
-small-Binary op at left right depth = refl
-
-pub ids-Cell : (c : Access) (visible : List Visible) → expr_with_ids (Cell c) visible ≡ None
-unfolding hidden-the_row-Access-0 hidden
-ids-Cell c visible = refl
-
-pub ids-Neg : (e : Expr) (visible : List Visible) → expr_with_ids (Neg e) visible ≡ None
-unfolding hidden-the_row-Expr-1 hidden
-ids-Neg e visible = refl
-
-pub ids-Not : (e : Expr) (visible : List Visible) → expr_with_ids (Not e) visible ≡ None
-unfolding hidden-the_row-Expr-1 hidden
-ids-Not e visible = refl
-
-pub ids-Binary : (op : Op) (at : ℕ) (left right : Expr) (visible : List Visible)
-    → expr_with_ids (Binary op at left right) visible ≡ (if is_small_op op then both (expr_with_ids left visible) (expr_with_ids right visible) (λ a b. Binary op at a b) else None)
-unfolding hidden-the_row-Expr-1 hidden
-ids-Binary op at left right visible = refl
 
 run_row_at : (k : _) (row : Row_of-Stmt k) (n : ℕ) (m : Memory) → run_row row n m ≡ run_all (items-the_row-Stmt k row) n m
 run_row_at k end_of-Stmt n m = refl
@@ -171,55 +135,11 @@ steady-While test body at indices = steady_body body indices
 pub steady-For : (l : Loop) (indices : List ℕ) → IsSteady (For l) indices ≡ AreSteady l.body (l.index.id ∷ indices)
 steady-For l indices = steady_body l.body (l.index.id ∷ indices)
 
-formed_row_at : (k : _) (row : Row_of-Stmt k) (depth : ℕ) → IsRowWellFormed row depth ≡ AreWellFormed (items-the_row-Stmt k row) depth
-formed_row_at k end_of-Stmt depth = refl
-formed_row_at k (more_of-Stmt s rest) depth = ap (λ P. IsWellFormed s depth × P) (formed_row_at _ rest depth)
-
-pub formed_body : (body : List Stmt) (depth : ℕ) → IsRowWellFormed (hidden-the_row-Stmt-0 body) depth ≡ AreWellFormed body depth
-formed_body body depth =
-    formed_row_at _ (hidden-the_row-Stmt-0 body) depth ∙ ap (λ (ss : List Stmt). AreWellFormed ss depth) (items_hidden-the_row-Stmt-0 body)
-
-pub formed-If : (test : Expr) (then_part else_part : List Stmt) (depth : ℕ) → IsWellFormed (If test then_part else_part) depth ≡ ⊥
-formed-If test then_part else_part depth = refl
-
-pub formed-While : (test : Expr) (body : List Stmt) (at depth : ℕ) → IsWellFormed (While test body at) depth ≡ ⊥
-formed-While test body at depth = refl
-
-pub formed-For : (l : Loop) (depth : ℕ)
-    → IsWellFormed (For l) depth
-    ≡ ((l.index.id ≡ depth) × IsSmallExpr l.low depth × IsSmallExpr l.high depth × IsShort l.low l.high × AreWellFormed l.body (depth + 1))
-formed-For l depth =
-    λ i. (l.index.id ≡ depth) × IsSmallExpr l.low depth × IsSmallExpr l.high depth × IsShort l.low l.high × formed_body l.body (depth + 1) i
-
-ids_row_at : (k : _) (row : Row_of-Stmt k) (visible : List Visible) → row_with_ids row visible ≡ all_with_ids (items-the_row-Stmt k row) visible
-ids_row_at k end_of-Stmt visible = refl
-ids_row_at k (more_of-Stmt s rest) visible =
-    ap (λ (o : Option (List Stmt)). both (stmt_with_ids s visible) o (λ first later. first ∷ later)) (ids_row_at _ rest visible)
-
-ids_body : (body : List Stmt) (visible : List Visible) → row_with_ids (hidden-the_row-Stmt-0 body) visible ≡ all_with_ids body visible
-ids_body body visible =
-    ids_row_at _ (hidden-the_row-Stmt-0 body) visible ∙ ap (λ (ss : List Stmt). all_with_ids ss visible) (items_hidden-the_row-Stmt-0 body)
-
-pub ids-If : (test : Expr) (then_part else_part : List Stmt) (visible : List Visible) → stmt_with_ids (If test then_part else_part) visible ≡ None
-ids-If test then_part else_part visible = refl
-
-pub ids-While : (test : Expr) (body : List Stmt) (at : ℕ) (visible : List Visible) → stmt_with_ids (While test body at) visible ≡ None
-ids-While test body at visible = refl
-
-pub ids-For : (l : Loop) (visible : List Visible)
-    → stmt_with_ids (For l) visible ≡ (if is_free l.index.text visible && is_short l.low l.high
-    then loop_with_ids l.index l.low l.high l.seq l.at (length visible) (all_with_ids l.body (with_index visible l.index.text))
-    else None)
-ids-For l visible =
-    ap (λ (o : Option (List Stmt)). if is_free l.index.text visible && is_short l.low l.high
-    then loop_with_ids l.index l.low l.high l.seq l.at (length visible) o
-    else None) (ids_body l.body (with_index visible l.index.text))
-
 -- the equations at an expression that holds others
-pub ruleset expr_laws = (value-Cell, value-Neg, value-Not, value-Binary, named-Cell, named-Neg, named-Not, named-Binary, small-Cell, small-Neg, small-Not, small-Binary, ids-Cell, ids-Neg, ids-Not, ids-Binary)
+pub ruleset expr_laws = (value-Cell, value-Neg, value-Not, value-Binary, named-Cell, named-Neg, named-Not, named-Binary)
 
 -- the values alone
 pub ruleset value_laws = (value-Cell, value-Neg, value-Not, value-Binary)
 
 -- the equations at a statement that holds others
-pub ruleset stmt_laws = (run-If, run-While, run-For, scoped-If, scoped-While, scoped-For, steady-If, steady-While, steady-For, formed-If, formed-While, formed-For, ids-If, ids-While, ids-For)
+pub ruleset stmt_laws = (run-If, run-While, run-For, scoped-If, scoped-While, scoped-For, steady-If, steady-While, steady-For)

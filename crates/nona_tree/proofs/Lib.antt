@@ -3,7 +3,6 @@ pub mod Keeps
 pub mod Depth
 pub mod Turns
 pub mod I64
-pub mod Small
 pub mod EntryLaws
 pub mod DeedLaws
 pub mod Regions

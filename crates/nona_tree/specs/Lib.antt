@@ -4,7 +4,6 @@ pub mod Run
 pub mod Scope
 pub mod Numbers
 pub mod Names
-pub mod WellFormed
 pub mod Seen
 pub mod Faults
 pub mod Ids

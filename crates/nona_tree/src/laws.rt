@@ -8,12 +8,10 @@ ghost use Rattle.nona_tree.specs.declared.trees.Loop.{Loop};
 ghost use Rattle.nona_tree.specs.declared.trees.Program.{Program};
 ghost use Rattle.nona_tree.specs.declared.trees.Stmt.{Stmt, For};
 ghost use Rattle.nona_tree.specs.Memory.{Memory, Extends};
-ghost use Rattle.nona_tree.specs.Names.{turn_bound};
 ghost use Rattle.nona_tree.specs.Numbers.{IsI64, AreCells, AreI64, IsI64Expr, IsI64Stmt, AreI64Stmts, IsI64Program};
 ghost use Rattle.nona_tree.specs.Run.{Ran, done, starved, then_do, block, turn, first_turns, run, run_all, start_of};
-ghost use Rattle.nona_tree.specs.Scope.{depth_after, depth_after_all, AreScoped};
+ghost use Rattle.nona_tree.specs.Scope.{depth_after, depth_after_all};
 ghost use Rattle.nona_tree.specs.Value.{value_of};
-ghost use Rattle.nona_tree.specs.WellFormed.{AreWellFormed};
 
 /// Says what stands after the first turns of a `for`. Where the first `k` are done, the first `k + 1` are one turn more,
 /// and once a turn ended otherwise both the store and the end stay. A `for` does all its turns where it may take as many.
@@ -58,11 +56,4 @@ pub fn numbers_stay()
     ensures one { (s : Stmt) → IsI64Stmt s → (n : ℕ) (m : Memory) → AreI64 m → AreI64 (run s n m).store }
     ensures all { (ss : List Stmt) → AreI64Stmts ss → (n : ℕ) (m : Memory) → AreI64 m → AreI64 (run_all ss n m).store }
     ensures turns { (ss : List Stmt) → AreI64Stmts ss → (n : ℕ) (a b : ℤ) → IsI64 a → IsI64 b → (k : ℕ) → k ≤ int_gap a b → (m : Memory) → AreI64 m → AreI64 (first_turns (turn (run_all ss n)) a k m).store }
-{}
-
-/// Says that well-formed statements name only what is there, and that a run of them that may take the most turns of a
-/// loop is done, over every store.
-pub fn small_ends_done()
-    ensures scoped { (ss : List Stmt) (depth arrays : ℕ) → AreWellFormed ss depth → AreScoped ss depth arrays }
-    ensures done { (ss : List Stmt) (depth : ℕ) → AreWellFormed ss depth → (n : ℕ) → turn_bound ≤ n → (m : Memory) → (run_all ss n m).end ≡ Done }
 {}

@@ -4,8 +4,7 @@
 //! expression (`Value`), the run of a statement (`Run`), the regions that a run comes to and the state after some
 //! iterations of one (`Entries`), and what a run reads, writes and prints (`Deeds`). It says what a statement needs of
 //! the store around it (`Scope`) and what has numbers of 64 bits alone (`Numbers`), and states the rules on names and
-//! limits of the whole language (`Seen`, `Faults`, `Ids`, `Smallness`, `Checking`) and those of the forms that programs
-//! may have so far (`Names`, `WellFormed`).
+//! limits (`Names`, `Seen`, `Faults`, `Ids`, `Smallness`, `Checking`).
 #![tactic(auto)]
 
 mod checked;
@@ -26,9 +25,7 @@ pub use checked_laws::{cells_are_bounded, checked_is_scoped, first_fault_is_one,
 pub use deed_laws::{all_unset_stays, unset_stays, value_from_deeds};
 pub use entry_laws::{after_next, entries_are_regions, loop_is_after, turns_from_first};
 pub use faults::ProgramFault;
-pub use laws::{
-    lengths_stay, numbers_stay, printed_grows, scalars_stay, small_ends_done, state_after,
-};
+pub use laws::{lengths_stay, numbers_stay, printed_grows, scalars_stay, state_after};
 pub use names::{Name, Use};
 pub use outcomes::{Outcome, Trap, TrapKind};
 pub use plans::{Plan, Stage};

@@ -7,13 +7,13 @@
 #![tactic(auto)]
 
 mod program;
+mod statements;
 mod steps;
 mod values;
-mod walk;
 
-pub use program::{Ended, run_checked, run_program, run_small};
-pub use values::value;
-pub use walk::walk_all;
+pub use program::{Ended, run_checked, run_program};
+pub use statements::{walk, walk_all};
+pub use values::{is_no, value};
 
 #[cfg(test)]
 mod tests;

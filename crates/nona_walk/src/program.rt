@@ -1,14 +1,12 @@
 //! Programs from their declared values to their end.
 
-ghost use Rattle.std.specs.Prelude.{◌≡◌, ◌≤◌, ◌+◌, ◌^◌, [], length, IfOk};
+ghost use Rattle.std.specs.Prelude.{◌≤◌, ◌+◌, ◌^◌, length, IfOk};
 ghost use Rattle.nona_store.specs.Arrays.{AreSized};
-ghost use Rattle.nona_tree.specs.Names.{turn_bound};
-ghost use Rattle.nona_tree.specs.Run.{done, meaning_of};
+ghost use Rattle.nona_tree.specs.Run.{meaning_of};
 ghost use Rattle.nona_tree.specs.Scope.{AreScoped};
-ghost use Rattle.nona_tree.specs.WellFormed.{AreWellFormed};
 ghost use Rattle.nona_walk.specs.Reached.{Reaches};
 
-use crate::walk::walk_all;
+use crate::statements::walk_all;
 use nona_store::Store;
 use nona_tree::{Checked, Outcome, Program, cells_are_bounded, checked_is_scoped};
 use std::alloc::{AllocError, Global};
@@ -59,22 +57,4 @@ pub fn run_checked(
     checked_is_scoped();
     cells_are_bounded();
     run_program(alloc, checked.program(), input, turns)
-}
-
-/// Runs a program of the forms that are accepted so far from its declared values to its end, in one thread.
-///
-/// `turns` is how many turns a loop may take whenever it is entered: at least as many as any loop of such a program
-/// takes, so no loop is cut off. Such a program has no arrays and no input, and its run is always done. The answer is
-/// the store after the last statement, and an error where memory runs out.
-pub fn run_small(alloc: Global, program: &Program, turns: u64) -> Result<Store, AllocError>
-    requires formed { AreWellFormed program.now.body (length program.now.vars) }
-    requires arrays { program.now.arrays ≡ [] }
-    requires turns { turn_bound ≤ turns }
-    ensures { IfOk result (λ store. meaning_of program.now [] turns ≡ done store) }
-{
-    let ended = run_program(alloc, program, Vec::new(alloc), turns)?;
-    match ended.outcome {
-        Outcome::Done => Ok(ended.store),
-        _ => unreachable!(),
-    }
 }

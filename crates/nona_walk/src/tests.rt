@@ -1,27 +1,34 @@
 //! Small programs, with what they leave reckoned by hand.
+//!
+//! A program is a text of pairs, each a letter and its argument. What is built stands behind its parts.
+//!
+//! - Expressions: `n5` a number (`nT` 10, `nS` 65, `nW` 2^32, `n>` the greatest, `n<` the least), `x1` the scalar with id 1,
+//!   `#0` the length of array 0, `c0` its cell at an index, `w0` the same at a wrapped index, `o+` an operator on two values,
+//!   `--` and `!!` of one.
+//! - Statements: `l2` declares scalar 2, `s0` assigns, `+0` and `m0` fold into scalar 0 by `+` and `min`, `p.` and `p%` put a
+//!   value behind an index, plain and wrapped, into array 1, and `f+` and `F+` fold into its cell so; `>>` prints.
+//! - Blocks: `{` begins one. `i1` is a `for` with index 1 behind its bounds and its block, `@@` a `while` behind its test and
+//!   its block, and `??` an `if` behind its test and its two blocks.
 
-ghost use Rattle.std.specs.Prelude.{◌≡◌, ◌<◌, ◌≤◌, ◌+◌, ◌^◌, [], IsTrue, IfOk, length};
+ghost use Rattle.std.specs.Prelude.{◌≡◌, ◌<◌, ◌≤◌, ◌+◌, ◌^◌, IsTrue, IfOk, length};
 ghost use Rattle.nona_store.specs.Arrays.{AreSized};
 ghost use Rattle.nona_tree.specs.Scope.{IsNamed, IsCellNamed, IsScoped, AreScoped, depth_after};
-ghost use Rattle.nona_tree.specs.WellFormed.{AreWellFormed};
 
-use crate::{Ended, run_checked, run_program, run_small, value, walk_all};
+use crate::{Ended, run_checked, run_program, walk};
 use nona_num::Fold;
 use nona_store::Store;
 use nona_tree::{
-    Access, ArrayDecl, Checked, Expr, Loop, Name, Op, Outcome, Program, Stmt, Trap, TrapKind, Use,
-    VarDecl,
+    Access, ArrayDecl, Checked, Expr, Loop, Name, Op, Outcome, Program, Stmt, Use, VarDecl,
 };
 use sqlite_items::{Boxed, Items};
 use std::alloc::{AllocError, Global};
 use std::process::Abort;
 use std::test::Fail;
 
-/// The place of each array's name, each operator, each `for` and each `while`.
+/// The place of the declared array's name, and of the input's.
 const ARRAY: u32 = 38;
 
-/// The place of the array's name in a program that has one access, further to the front.
-const FIRST_ARRAY: u32 = 28;
+const INPUT: u32 = 28;
 
 const OPERATOR: u32 = 90;
 
@@ -144,26 +151,53 @@ fn named(id: u32, at: u32) -> Use
     Use::new(Name::of(b"x".as_slice()), at).with_id(id)
 }
 
-fn scalar(id: u32) -> Expr {
-    Expr::Scalar(named(id, 0))
+/// The id that a digit stands for, or 9.
+fn id_of(argument: u8) -> u32 {
+    match argument {
+        b'0'..=b'8' => (argument - b'0') as u32,
+        _ => 9,
+    }
 }
 
-fn binary(alloc: Global, op: Op, left: Expr, right: Expr) -> Result<Expr, AllocError> {
-    Ok(Expr::Binary {
-        op,
-        at: OPERATOR,
-        left: Boxed::new(alloc, left)?,
-        right: Boxed::new(alloc, right)?,
-    })
+fn number_of(argument: u8) -> i64 {
+    match argument {
+        b'0'..=b'9' => (argument - b'0') as i64,
+        b'T' => 10,
+        b'S' => 65,
+        b'W' => 4_294_967_296,
+        b'>' => i64::MAX,
+        _ => i64::MIN,
+    }
+}
+
+fn operator_of(argument: u8) -> Op {
+    match argument {
+        b'-' => Op::Sub,
+        b'*' => Op::Mul,
+        b'/' => Op::Div,
+        b'%' => Op::Rem,
+        b'^' => Op::Xor,
+        b'L' => Op::Shl,
+        b'R' => Op::Shr,
+        b'<' => Op::Lt,
+        b'>' => Op::Ge,
+        b'=' => Op::Eq,
+        _ => Op::Add,
+    }
+}
+
+fn fold_of(argument: u8) -> Fold {
+    match argument {
+        b'|' => Fold::Or,
+        b'*' => Fold::Mul,
+        b'M' => Fold::Max,
+        _ => Fold::Add,
+    }
 }
 
 /// A cell of the input, whose id is 0, or of the declared array, whose id is 1.
 fn access(array: u32, wrap: bool, index: Expr) -> Access {
-    access_at(array, ARRAY, wrap, index)
-}
-
-/// The same, with the place of the array's name.
-fn access_at(array: u32, at: u32, wrap: bool, index: Expr) -> Access {
+    let at = if array == 0 { INPUT } else { ARRAY };
     Access {
         array: named(array, at),
         wrap,
@@ -171,40 +205,101 @@ fn access_at(array: u32, at: u32, wrap: bool, index: Expr) -> Access {
     }
 }
 
-fn cell(alloc: Global, array: u32, wrap: bool, index: Expr) -> Result<Expr, AllocError> {
-    Ok(Expr::Cell(Boxed::new(alloc, access(array, wrap, index))?))
-}
-
-fn declare(id: u32, value: Expr) -> Stmt {
-    Stmt::Let {
-        name: named(id, 0),
-        value,
+fn pop(values: &mut Vec<Expr>) -> Expr {
+    match values.pop() {
+        Some(value) => value,
+        None => Expr::Number(0),
     }
 }
 
-fn set(id: u32, value: Expr) -> Stmt {
-    Stmt::Set {
-        name: named(id, 0),
-        value,
+fn pop_block(alloc: Global, blocks: &mut Vec<Items<Stmt>>) -> Items<Stmt> {
+    match blocks.pop() {
+        Some(block) => block,
+        None => Items::new(alloc),
     }
 }
 
-fn fold(id: u32, fold: Fold, value: Expr) -> Stmt {
-    Stmt::Fold {
-        name: named(id, 0),
-        fold,
-        value,
+/// Puts a statement behind those of the last block.
+fn add(alloc: Global, blocks: &mut Vec<Items<Stmt>>, s: Stmt) -> Result<(), AllocError> {
+    let mut block = pop_block(alloc, blocks);
+    block.push(s)?;
+    blocks.push(block)?;
+    Ok(())
+}
+
+/// The expression of a letter and its argument, if it is one.
+fn value_of(
+    alloc: Global,
+    letter: u8,
+    argument: u8,
+    values: &mut Vec<Expr>,
+) -> Result<Option<Expr>, AllocError> {
+    let id = id_of(argument);
+    match letter {
+        b'n' => Ok(Some(Expr::Number(number_of(argument)))),
+        b'x' => Ok(Some(Expr::Scalar(named(id, 0)))),
+        b'#' => Ok(Some(Expr::Len(named(id, 0)))),
+        b'c' => cell(alloc, access(id, false, pop(values))),
+        b'w' => cell(alloc, access(id, true, pop(values))),
+        b'-' => Ok(Some(Expr::Neg(Boxed::new(alloc, pop(values))?))),
+        b'!' => Ok(Some(Expr::Not(Boxed::new(alloc, pop(values))?))),
+        b'o' => binary(alloc, operator_of(argument), values),
+        _ => Ok(None),
     }
 }
 
-fn put(wrap: bool, index: Expr, value: Expr) -> Stmt {
-    Stmt::Put {
-        place: access(1, wrap, index),
-        value,
+fn cell(alloc: Global, place: Access) -> Result<Option<Expr>, AllocError> {
+    Ok(Some(Expr::Cell(Boxed::new(alloc, place)?)))
+}
+
+fn binary(alloc: Global, op: Op, values: &mut Vec<Expr>) -> Result<Option<Expr>, AllocError> {
+    let right = Boxed::new(alloc, pop(values))?;
+    let left = Boxed::new(alloc, pop(values))?;
+    Ok(Some(Expr::Binary {
+        op,
+        at: OPERATOR,
+        left,
+        right,
+    }))
+}
+
+/// The statement of a letter and its argument.
+fn statement_of(
+    alloc: Global,
+    letter: u8,
+    argument: u8,
+    values: &mut Vec<Expr>,
+    blocks: &mut Vec<Items<Stmt>>,
+) -> Stmt {
+    let name = named(id_of(argument), 0);
+    let value = pop(values);
+    match letter {
+        b'l' => Stmt::Let { name, value },
+        b's' => Stmt::Set { name, value },
+        b'+' => folded(name, Fold::Add, value),
+        b'm' => folded(name, Fold::Min, value),
+        b'p' => Stmt::Put {
+            place: access(1, argument == b'%', pop(values)),
+            value,
+        },
+        b'f' => folded_put(false, fold_of(argument), pop(values), value),
+        b'F' => folded_put(true, fold_of(argument), pop(values), value),
+        b'i' => for_loop(name, pop(values), value, pop_block(alloc, blocks)),
+        b'@' => Stmt::While {
+            test: value,
+            body: pop_block(alloc, blocks),
+            at: WHILE,
+        },
+        b'?' => chosen(alloc, value, blocks),
+        _ => Stmt::Print { value, at: 0 },
     }
 }
 
-fn fold_put(wrap: bool, index: Expr, fold: Fold, value: Expr) -> Stmt {
+fn folded(name: Use, fold: Fold, value: Expr) -> Stmt {
+    Stmt::Fold { name, fold, value }
+}
+
+fn folded_put(wrap: bool, fold: Fold, index: Expr, value: Expr) -> Stmt {
     Stmt::FoldPut {
         place: access(1, wrap, index),
         fold,
@@ -212,23 +307,10 @@ fn fold_put(wrap: bool, index: Expr, fold: Fold, value: Expr) -> Stmt {
     }
 }
 
-fn print(value: Expr) -> Stmt {
-    Stmt::Print { value, at: 0 }
-}
-
-fn while_loop(test: Expr, body: Items<Stmt>) -> Stmt {
-    Stmt::While {
-        test,
-        body,
-        at: WHILE,
-    }
-}
-
-/// A loop over the numbers from 0 up to, without, `high`; its index has this id.
-fn for_loop(index: u32, high: Expr, body: Items<Stmt>) -> Stmt {
+fn for_loop(index: Use, low: Expr, high: Expr, body: Items<Stmt>) -> Stmt {
     Stmt::For(Loop {
-        index: named(index, 0),
-        low: Expr::Number(0),
+        index,
+        low,
         high,
         body,
         seq: true,
@@ -236,24 +318,59 @@ fn for_loop(index: u32, high: Expr, body: Items<Stmt>) -> Stmt {
     })
 }
 
-fn body_of<const N: usize>(
+fn chosen(alloc: Global, test: Expr, blocks: &mut Vec<Items<Stmt>>) -> Stmt {
+    let no = pop_block(alloc, blocks);
+    let yes = pop_block(alloc, blocks);
+    Stmt::If { test, yes, no }
+}
+
+/// Builds what a letter and its argument stand for.
+fn build(
     alloc: Global,
-    statements: [Stmt; N],
-) -> Result<Items<Stmt>, AllocError> {
-    Ok(Items::from_vec(Vec::from_array(alloc, statements)?))
+    letter: u8,
+    argument: u8,
+    values: &mut Vec<Expr>,
+    blocks: &mut Vec<Items<Stmt>>,
+) -> Result<(), AllocError> {
+    match value_of(alloc, letter, argument, values)? {
+        Some(value) => {
+            values.push(value)?;
+            Ok(())
+        }
+        None => {
+            let s = statement_of(alloc, letter, argument, values, blocks);
+            add(alloc, blocks, s)
+        }
+    }
+}
+
+/// The statements of a text.
+fn statements(alloc: Global, text: &[u8]) -> Result<Items<Stmt>, AllocError> {
+    let mut values = Vec::new(alloc);
+    let mut blocks = Vec::new(alloc);
+    let mut letter = b' ';
+    for byte in text {
+        if letter == b' ' {
+            letter = *byte;
+            if letter == b'{' {
+                blocks.push(Items::new(alloc))?;
+                letter = b' ';
+            }
+        } else {
+            build(alloc, letter, *byte, &mut values, &mut blocks)?;
+            letter = b' ';
+        }
+    }
+    Ok(pop_block(alloc, &mut blocks))
 }
 
 /// A program with these variables, and an array with so many cells.
-fn program_of(
-    alloc: Global,
-    vars: &[i64],
-    cells: u32,
-    body: Items<Stmt>,
-) -> Result<Program, AllocError>
+fn program_of(alloc: Global, vars: &[i64], cells: u32, text: &[u8]) -> Result<Program, AllocError>
     requires some_cells { 0 < cells }
     requires few_cells { cells ≤ 2 ^ 22 }
     ensures { IfOk result (λ p. AreSized p.arrays) }
 {
+    let body = statements(alloc, text)?;
     let mut declared = Items::new(alloc);
     for value in vars {
         declared.push(VarDecl {
@@ -273,20 +390,40 @@ fn program_of(
     })
 }
 
-/// Runs a program with these variables, such an array and these statements over an input.
-fn run(
+/// What a run left: how it ended, its scalars, of which there are at most four, the cells of its array and what it printed.
+fn shown(rt: &impl Abort, alloc: Global, ended: &Ended) -> Result<String, AllocError> {
+    let store = &ended.store;
+    let mut scalars = Vec::new(alloc);
+    for id in 0..4u32 {
+        if (id as usize) < store.depth() {
+            scalars.push(store.scalar(id))?;
+        }
+    }
+    assert!(rt; 1 < store.count_arrays());
+    let end = ended.outcome;
+    format!(in alloc;
+        "{end:?} {:?} {:?} {:?}",
+        scalars.as_slice(),
+        store.cells(1),
+        store.printed()
+    )
+}
+
+/// Runs a program with these variables, such an array and these statements over an input, and compares what it left.
+fn leaves(
     rt: &impl Abort,
     alloc: Global,
     vars: &[i64],
     cells: u32,
     input: &[i64],
     turns: u64,
-    body: Items<Stmt>,
-) -> Result<Ended, AllocError>
+    text: &[u8],
+    want: &str,
+) -> Result<(), AllocError>
     requires some_cells { 0 < cells }
     requires few_cells { cells ≤ 2 ^ 22 }
 {
-    let program = program_of(alloc, vars, cells, body)?;
+    let program = program_of(alloc, vars, cells, text)?;
     let numbers = Vec::from_slice(alloc, input)?;
     assert!(rt; numbers.len() <= 1_048_576);
     assert!(rt; program.arrays.len() < 9);
@@ -297,290 +434,205 @@ fn run(
             program.arrays.len() + 1
         )
     );
-    run_program(alloc, &program, numbers, turns)
-}
-
-/// Compares what a run left: how it ended, its scalars, of which there are at most four, the cells of its array and
-/// what it printed.
-fn expect(
-    rt: &impl Abort,
-    ended: &Ended,
-    outcome: Outcome,
-    scalars: &[i64],
-    cells: &[i64],
-    printed: &[i64],
-) {
-    let store = &ended.store;
-    assert_eq!(rt; ended.outcome, outcome);
-    assert_eq!(rt; store.depth(), scalars.len());
-    for id in 0..4u32 {
-        if let Some(want) = scalars.get(id as usize) {
-            assert!(rt; (id as usize) < store.depth());
-            assert_eq!(rt; store.scalar(id), *want);
-        }
-    }
-    assert!(rt; 1 < store.count_arrays());
-    assert_eq!(rt; store.cells(1), cells);
-    assert_eq!(rt; store.printed(), printed);
-}
-
-fn trap(kind: TrapKind, at: u32) -> Outcome {
-    Outcome::Trap(Trap { kind, at })
+    let ended = run_program(alloc, &program, numbers, turns)?;
+    let left = shown(rt, alloc, &ended)?;
+    assert_eq!(rt; left.as_str(), want);
+    Ok(())
 }
 
 #[test]
 fn operators_wrap_and_divide(rt: HostRuntime) -> Result<(), Fail> {
     let alloc = rt.alloc();
-    let program = program_of(alloc, &[], 1, Items::new(alloc))?;
-    let store = Store::start(alloc, &program, Vec::new(alloc))?;
-    let by_zero = Err(Trap {
-        kind: TrapKind::Divide,
-        at: OPERATOR,
-    });
-    let cases = [
-        (Op::Add, i64::MAX, 1, Ok(i64::MIN)),
-        (Op::Sub, 2, 5, Ok(-3)),
-        (Op::Div, -7, 2, Ok(-3)),
-        (Op::Rem, -7, 2, Ok(-1)),
-        (Op::Div, i64::MIN, -1, Ok(i64::MIN)),
-        (Op::Rem, i64::MIN, -1, Ok(0)),
-        (Op::Div, 7, 0, by_zero),
-        (Op::Rem, 7, 0, by_zero),
-        (Op::Shl, 1, 65, Ok(2)),
-        (Op::Shr, -5, 1, Ok(-3)),
-        (Op::Xor, 12, 10, Ok(6)),
-        (Op::Lt, -1, 0, Ok(1)),
-        (Op::Ge, -1, 0, Ok(0)),
-    ];
-    for (op, left, right, want) in cases {
-        let e = binary(alloc, op, Expr::Number(left), Expr::Number(right))?;
-        assert!(rt; is_named(&e, store.depth(), store.count_arrays()));
-        assert_eq!(rt; value(&e, &store), want);
-    }
-    Ok(())
-}
-
-#[test]
-fn an_index_beyond_the_cells_traps(rt: HostRuntime) -> Result<(), Fail> {
-    let alloc = rt.alloc();
-    let fill = body_of(alloc, [put(false, scalar(1), scalar(1))])?;
-    let filling = [print(Expr::Number(3)), for_loop(1, Expr::Number(10), fill)];
-    let ended = run(&rt, alloc, &[8], 7, &[], 100, body_of(alloc, filling)?)?;
-    let end = trap(TrapKind::Index, ARRAY);
-    expect(&rt, &ended, end, &[8], &[0, 1, 2, 3, 4, 5, 6], &[3]);
-    let far = binary(alloc, Op::Mul, scalar(0), Expr::Number(4_294_967_296))?;
-    let far = Stmt::Put {
-        place: access_at(1, FIRST_ARRAY, false, far),
-        value: Expr::Number(1),
-    };
-    let striding = for_loop(0, Expr::Number(2), body_of(alloc, [far])?);
-    let ended = run(&rt, alloc, &[], 4, &[], 100, body_of(alloc, [striding])?)?;
-    let first_end = trap(TrapKind::Index, FIRST_ARRAY);
-    expect(&rt, &ended, first_end, &[], &[1, 0, 0, 0], &[]);
-    let divided = binary(alloc, Op::Div, Expr::Number(1), Expr::Number(0))?;
-    let both = body_of(alloc, [put(false, Expr::Number(-1), divided)])?;
-    let ended = run(&rt, alloc, &[], 1, &[], 100, both)?;
-    expect(&rt, &ended, end, &[], &[0], &[]);
-    Ok(())
-}
-
-#[test]
-fn an_index_wraps_unless_there_is_no_cell(rt: HostRuntime) -> Result<(), Fail> {
-    let alloc = rt.alloc();
-    let input = access_at(0, FIRST_ARRAY, true, scalar(1));
-    let input = Expr::Cell(Boxed::new(alloc, input)?);
-    let sum = body_of(alloc, [fold(0, Fold::Add, input)])?;
-    let summing = body_of(alloc, [for_loop(1, Expr::Number(3), sum)])?;
-    let ended = run(&rt, alloc, &[0], 1, &[], 100, summing)?;
-    let end = trap(TrapKind::Empty, FIRST_ARRAY);
-    expect(&rt, &ended, end, &[0], &[0], &[]);
-    let backward = [
-        fold_put(true, Expr::Number(-1), Fold::Or, Expr::Number(6)),
-        put(true, Expr::Number(-5), Expr::Number(9)),
-        fold_put(true, Expr::Number(-3), Fold::Add, Expr::Number(5)),
-        fold_put(false, Expr::Number(0), Fold::Max, Expr::Number(3)),
-        fold_put(true, Expr::Number(9), Fold::Mul, Expr::Number(4)),
-        print(Expr::Len(named(1, 0))),
-        print(Expr::Len(named(0, 0))),
-    ];
-    let ended = run(&rt, alloc, &[], 3, &[7, 7], 100, body_of(alloc, backward)?)?;
-    expect(&rt, &ended, Outcome::Done, &[], &[20, 9, 6], &[3, 2]);
-    Ok(())
-}
-
-#[test]
-fn a_histogram(rt: HostRuntime) -> Result<(), Fail> {
-    let alloc = rt.alloc();
-    let square = binary(alloc, Op::Mul, scalar(2), scalar(2))?;
-    let count = [
-        declare(2, cell(alloc, 0, false, scalar(1))?),
-        declare(3, binary(alloc, Op::Add, square, Expr::Number(1))?),
-        fold_put(true, scalar(3), Fold::Add, Expr::Number(1)),
-        print(scalar(3)),
-        fold(0, Fold::Add, scalar(3)),
-    ];
-    let all = for_loop(1, Expr::Len(named(0, 0)), body_of(alloc, count)?);
-    let input = [1, 2, 3, 4, 5, 6];
-    let ended = run(&rt, alloc, &[0], 8, &input, 6, body_of(alloc, [all])?)?;
-    let counts = [0, 1, 3, 0, 0, 2, 0, 0];
-    let printed = [2, 5, 10, 17, 26, 37];
-    expect(&rt, &ended, Outcome::Done, &[97], &counts, &printed);
-    Ok(())
-}
-
-#[test]
-fn loops_end_out_of_turns(rt: HostRuntime) -> Result<(), Fail> {
-    let alloc = rt.alloc();
-    let sum = body_of(alloc, [fold(0, Fold::Add, scalar(1))])?;
-    let summing = body_of(alloc, [for_loop(1, Expr::Number(8), sum)])?;
-    let ended = run(&rt, alloc, &[0], 1, &[], 5, summing)?;
-    expect(
+    let wrapped =
+        b"{n>n1o+>> n2n5o->> n7--n2o/>> n7--n2o%>> n<n1--o/>> n<n1--o%>> n1nSoL>> n5--n1oR>> nTn2o+nTo^>>";
+    let want = "Done [] [0] [-9223372036854775808, -3, -3, -1, -9223372036854775808, 0, 2, -3, 6]";
+    leaves(&rt, alloc, &[], 1, &[], 1, wrapped.as_slice(), want)?;
+    let tests = b"{n1--n0o<>> n1--n0o>>> n0!!>> n5!!>> n3n3o=>>";
+    leaves(
         &rt,
-        &ended,
-        Outcome::OutOfTurns { at: FOR },
-        &[10],
-        &[0],
-        &[],
-    );
-    let endless = [declare(2, Expr::Number(1)), fold(0, Fold::Add, scalar(2))];
-    let endless = while_loop(Expr::Number(-1), body_of(alloc, endless)?);
-    let around = body_of(
         alloc,
-        [for_loop(1, Expr::Number(3), body_of(alloc, [endless])?)],
+        &[],
+        1,
+        &[],
+        1,
+        tests.as_slice(),
+        "Done [] [0] [1, 0, 1, 0, 1]",
     )?;
-    let ended = run(&rt, alloc, &[0], 1, &[], 4, around)?;
-    expect(
+    let zero = "Trap(Trap { kind: Divide, at: 90 }) [] [0] [4]";
+    leaves(
         &rt,
-        &ended,
-        Outcome::OutOfTurns { at: WHILE },
-        &[4],
-        &[0],
+        alloc,
         &[],
-    );
-    let down = [
-        print(scalar(0)),
-        set(0, binary(alloc, Op::Sub, scalar(0), Expr::Number(1))?),
-    ];
-    let counting = body_of(alloc, [while_loop(scalar(0), body_of(alloc, down)?)])?;
-    let ended = run(&rt, alloc, &[5], 1, &[], 5, counting)?;
-    expect(&rt, &ended, Outcome::Done, &[0], &[0], &[5, 4, 3, 2, 1]);
-    Ok(())
-}
-
-#[test]
-fn a_trap_leaves_all_blocks(rt: HostRuntime) -> Result<(), Fail> {
-    let alloc = rt.alloc();
-    let less = binary(alloc, Op::Sub, scalar(2), Expr::Number(1))?;
-    let divide = [
-        declare(4, binary(alloc, Op::Div, Expr::Number(7), less)?),
-        print(scalar(4)),
-    ];
-    let choice = Stmt::If {
-        test: binary(alloc, Op::Eq, scalar(1), Expr::Number(1))?,
-        yes: body_of(alloc, divide)?,
-        no: body_of(alloc, [print(scalar(2))])?,
-    };
-    let inner = body_of(alloc, [declare(3, scalar(1)), choice])?;
-    let outer = body_of(alloc, [for_loop(2, Expr::Number(3), inner)])?;
-    let all = body_of(alloc, [for_loop(1, Expr::Number(3), outer)])?;
-    let ended = run(&rt, alloc, &[4], 1, &[], 100, all)?;
-    expect(
-        &rt,
-        &ended,
-        trap(TrapKind::Divide, OPERATOR),
-        &[4],
-        &[0],
-        &[0, 1, 2, -7],
-    );
-    Ok(())
-}
-
-#[test]
-fn bounds_are_taken_once(rt: HostRuntime) -> Result<(), Fail> {
-    let alloc = rt.alloc();
-    let more = body_of(alloc, [fold(0, Fold::Add, Expr::Number(2))])?;
-    let body = body_of(alloc, [for_loop(1, scalar(0), more)])?;
-    let program = program_of(alloc, &[3], 1, body)?;
-    let mut store = Store::start(alloc, &program, Vec::new(alloc))?;
-    assert!(rt; are_scoped(program.body.as_slice(), store.depth(), store.count_arrays()));
-    let outcome = walk_all(program.body.as_slice(), 100, &mut store)?;
-    expect(
-        &rt,
-        &Ended { outcome, store },
-        Outcome::Done,
-        &[9],
-        &[0],
+        1,
         &[],
-    );
-    Ok(())
-}
-
-/// The number with a sign before it.
-fn minus(alloc: Global, number: i64) -> Result<Expr, AllocError> {
-    Ok(Expr::Neg(Boxed::new(alloc, Expr::Number(number))?))
-}
-
-#[test]
-fn the_least_of_the_input(rt: HostRuntime) -> Result<(), Fail> {
-    let alloc = rt.alloc();
-    let least = fold(0, Fold::Min, cell(alloc, 0, false, scalar(1))?);
-    let all = for_loop(1, Expr::Len(named(0, 0)), body_of(alloc, [least])?);
-    let body = body_of(alloc, [all, print(scalar(0))])?;
-    let input = [i64::MAX, i64::MIN, 5];
-    let ended = run(&rt, alloc, &[i64::MAX], 1, &input, 100, body)?;
-    expect(&rt, &ended, Outcome::Done, &[i64::MIN], &[0], &[i64::MIN]);
+        1,
+        b"{n4>> n7n0o/>>".as_slice(),
+        zero,
+    )?;
+    leaves(
+        &rt,
+        alloc,
+        &[],
+        1,
+        &[],
+        1,
+        b"{n4>> n7n0o%>>".as_slice(),
+        zero,
+    )?;
     Ok(())
 }
 
 #[test]
 fn quotients_are_printed_up_to_the_trap(rt: HostRuntime) -> Result<(), Fail> {
     let alloc = rt.alloc();
-    let least = binary(alloc, Op::Sub, minus(alloc, i64::MAX)?, Expr::Number(1))?;
-    let printed = [
-        print(binary(alloc, Op::Div, minus(alloc, 7)?, Expr::Number(2))?),
-        print(binary(alloc, Op::Rem, minus(alloc, 7)?, Expr::Number(2))?),
-        print(binary(alloc, Op::Shl, Expr::Number(1), Expr::Number(65))?),
-        print(binary(alloc, Op::Div, least, minus(alloc, 1)?)?),
-        print(binary(alloc, Op::Div, Expr::Number(7), Expr::Number(0))?),
-    ];
-    let ended = run(&rt, alloc, &[], 1, &[], 100, body_of(alloc, printed)?)?;
-    let end = trap(TrapKind::Divide, OPERATOR);
-    expect(&rt, &ended, end, &[], &[0], &[-3, -1, 2, i64::MIN]);
+    let printed = b"{n7--n2o/>> n7--n2o%>> n1nSoL>> n>--n1o-n1--o/>> n7n0o/>>";
+    let want = "Trap(Trap { kind: Divide, at: 90 }) [] [0] [-3, -1, 2, -9223372036854775808]";
+    leaves(&rt, alloc, &[], 1, &[], 100, printed.as_slice(), want)?;
     Ok(())
 }
 
-/// `var x = 4; x += 3; print x;`
-fn small(alloc: Global) -> Result<Program, AllocError>
-    ensures formed { IfOk result (λ p. AreWellFormed p.body (length p.vars)) }
-    ensures arrays { IfOk result (λ p. p.arrays ≡ []) }
-{
-    let declared = VarDecl {
-        name: named(0, 0),
-        value: 4,
-    };
-    let more = Stmt::Fold {
-        name: named(0, 0),
-        fold: Fold::Add,
-        value: Expr::Number(3),
-    };
-    let last = Stmt::Print {
-        value: Expr::Scalar(named(0, 0)),
-        at: 0,
-    };
-    Ok(Program {
-        arrays: Items::new(alloc),
-        vars: Items::from_vec(vec![in alloc; declared]?),
-        body: Items::from_vec(vec![in alloc; more, last]?),
-    })
+#[test]
+fn an_index_beyond_the_cells_traps(rt: HostRuntime) -> Result<(), Fail> {
+    let alloc = rt.alloc();
+    let filling = b"{n3>> n0nT{x1x1p.i1";
+    let want = "Trap(Trap { kind: Index, at: 38 }) [8] [0, 1, 2, 3, 4, 5, 6] [3]";
+    leaves(&rt, alloc, &[8], 7, &[], 100, filling.as_slice(), want)?;
+    let far = b"{n0n2{x0nWo*n1p.i0";
+    let want = "Trap(Trap { kind: Index, at: 38 }) [] [1, 0, 0, 0] []";
+    leaves(&rt, alloc, &[], 4, &[], 100, far.as_slice(), want)?;
+    let before_the_value = b"{n1--n1n0o/p.";
+    let want = "Trap(Trap { kind: Index, at: 38 }) [] [0] []";
+    leaves(
+        &rt,
+        alloc,
+        &[],
+        1,
+        &[],
+        100,
+        before_the_value.as_slice(),
+        want,
+    )?;
+    Ok(())
 }
 
 #[test]
-fn a_small_program_is_done(rt: HostRuntime) -> Result<(), Fail> {
+fn an_index_wraps_unless_there_is_no_cell(rt: HostRuntime) -> Result<(), Fail> {
     let alloc = rt.alloc();
-    let program = small(alloc)?;
-    let store = run_small(alloc, &program, 1_000_000_000)?;
-    assert_eq!(rt; store.printed(), [7].as_slice());
-    assert_eq!(rt; store.depth(), 1);
+    let summing = b"{n0n3{x1w0+0i1";
+    let want = "Trap(Trap { kind: Empty, at: 28 }) [0] [0] []";
+    leaves(&rt, alloc, &[0], 1, &[], 100, summing.as_slice(), want)?;
+    let backward = b"{n1--n6F| n5--n9p% n3--n5F+ n0n3fM n9n4F* #1>> #0>>";
+    leaves(
+        &rt,
+        alloc,
+        &[],
+        3,
+        &[7, 7],
+        100,
+        backward.as_slice(),
+        "Done [] [20, 9, 6] [3, 2]",
+    )?;
+    Ok(())
+}
+
+#[test]
+fn the_input_is_read(rt: HostRuntime) -> Result<(), Fail> {
+    let alloc = rt.alloc();
+    let histogram = b"{n0#0{x1c0l2 x2x2o*n1o+l3 x3n1F+ x3>> x3+0 i1";
+    let input = [1, 2, 3, 4, 5, 6];
+    let want = "Done [97] [0, 1, 3, 0, 0, 2, 0, 0] [2, 5, 10, 17, 26, 37]";
+    leaves(&rt, alloc, &[0], 8, &input, 6, histogram.as_slice(), want)?;
+    let least = b"{n0#0{x1c0m0i1 x0>>";
+    let input = [i64::MAX, i64::MIN, 5];
+    let want = "Done [-9223372036854775808] [0] [-9223372036854775808]";
+    leaves(
+        &rt,
+        alloc,
+        &[i64::MAX],
+        1,
+        &input,
+        100,
+        least.as_slice(),
+        want,
+    )?;
+    Ok(())
+}
+
+#[test]
+fn loops_end_out_of_turns(rt: HostRuntime) -> Result<(), Fail> {
+    let alloc = rt.alloc();
+    let summing = b"{n0n8{x1+0i1";
+    leaves(
+        &rt,
+        alloc,
+        &[0],
+        1,
+        &[],
+        5,
+        summing.as_slice(),
+        "OutOfTurns { at: 7 } [10] [0] []",
+    )?;
+    let endless = b"{n0n3{n1--{n1l2x2+0@@i1";
+    leaves(
+        &rt,
+        alloc,
+        &[0],
+        1,
+        &[],
+        4,
+        endless.as_slice(),
+        "OutOfTurns { at: 60 } [4] [0] []",
+    )?;
+    let counting = b"{x0{x0>>x0n1o-s0@@";
+    leaves(
+        &rt,
+        alloc,
+        &[5],
+        1,
+        &[],
+        5,
+        counting.as_slice(),
+        "Done [0] [0] [5, 4, 3, 2, 1]",
+    )?;
+    Ok(())
+}
+
+#[test]
+fn a_trap_leaves_all_blocks(rt: HostRuntime) -> Result<(), Fail> {
+    let alloc = rt.alloc();
+    let nested = b"{n0n3{n0n3{x1l3 x1n1o={n7x2n1o-o/l4x4>>{x2>>??i2i1";
+    let want = "Trap(Trap { kind: Divide, at: 90 }) [4] [0] [0, 1, 2, -7]";
+    leaves(&rt, alloc, &[4], 1, &[], 100, nested.as_slice(), want)?;
+    Ok(())
+}
+
+#[test]
+fn bounds_are_taken_once(rt: HostRuntime) -> Result<(), Fail> {
+    let alloc = rt.alloc();
+    leaves(
+        &rt,
+        alloc,
+        &[3],
+        1,
+        &[],
+        100,
+        b"{n0x0{n2+0i1".as_slice(),
+        "Done [9] [0] []",
+    )?;
+    Ok(())
+}
+
+#[test]
+fn statements_run_one_by_one(rt: HostRuntime) -> Result<(), Fail> {
+    let alloc = rt.alloc();
+    let program = program_of(alloc, &[3], 1, b"{n0x0{n2+0i1 x0n1o+l1".as_slice())?;
+    let mut store = Store::start(alloc, &program, Vec::new(alloc))?;
+    for s in program.body.as_slice() {
+        assert!(rt; is_scoped(s, store.depth(), store.count_arrays()));
+        assert_eq!(rt; walk(s, 3, &mut store)?, Outcome::Done);
+    }
+    assert!(rt; store.depth() == 2);
+    assert_eq!(rt; (store.scalar(0), store.scalar(1)), (9, 10));
     Ok(())
 }
 

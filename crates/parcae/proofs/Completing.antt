@@ -1,67 +1,143 @@
--- A command over an accepted program ends with its meaning where nothing outside fails.
-use Rattle.std.proofs.Common.{◌≡◌, ℕ, ◌≤◌, List, [], ◌∷◌, ◌++◌, length, length-append, append-nil, ap, sym, ◌∙◌, subst, None, Some, arith}
+-- A command whose files are held ends with what is due of its run where nothing outside fails.
+use Rattle.std.proofs.Common.{◌≡◌, ◌≢◌, ℕ, ◌≤◌, ℤ, List, [], ◌∷◌, ◌++◌, length, length-append, ap, sym, refl, ◌∙◌, subst, None, Some, Ok, Err, arith}
 use Rattle.std.specs.declared.option.Option.{Option}
-use Rattle.std.specs.Io.KnownBytes.{Appends}
+use Rattle.fate_io.specs.Causes.{Rose}
 use Rattle.fate_io.specs.Sending.{Sent}
 use Rattle.nona_tree.specs.declared.trees.Program.{Program}
-use Rattle.nona_tree.specs.Memory.{Memory}
-use Rattle.nona_tree.specs.Names.{turn_bound}
-use Rattle.nona_tree.specs.Run.{Ran, meaning_of}
-use Rattle.parcae.specs.declared.sources.Source.TheVariants as source
-use Rattle.parcae.specs.Texts.{number_lines}
-use Rattle.parcae.specs.Told.{Told, finished}
+use Rattle.nona_store.specs.declared.input.InputFault.TheVariants as input
+use Rattle.nona_store.specs.Input.{numbers_of}
+use Rattle.weave.specs.declared.script.Command.{Command as Order}
+use Rattle.morta_script.specs.Lines.{commands_of}
+use Rattle.nona_parse.specs.Reading.{IsReading}
+use Rattle.parcae.specs.declared.refusal.Refusal.{Refusal}
+use Rattle.parcae.specs.declared.refusal.Source.{Source}
+use Rattle.parcae.specs.declared.refusal.Source.TheVariants as source
+use Rattle.parcae.specs.declared.status.Status.TheVariants.{NoMemory}
+use Rattle.parcae.specs.Words.{Task, Command, seq, replay}
+use Rattle.parcae.specs.Told.{Told}
 use Rattle.parcae.specs.Accepted.{IsAccepted}
-use Rattle.parcae.specs.Ends.{whole, write_failed, no_memory}
-use Rattle.parcae.specs.Due.{Command, seq, program_limit, DueOfText, ran, refused, DueOfFile, read, failed, long, DueOfProgram}
-use Rattle.parcae.specs.Answers.{Looked, Answers, IsComplete}
+use Rattle.parcae.specs.Ends.{Way, Whole, Ends, whole, write_failed, no_memory}
+use Rattle.parcae.specs.Files.{Held, limit_of, IsContent, IsBad, failed, long, text, RefusesInput, input_token, input_count, RefusesScript, script_line, GivesProgram, NoProgram, GivesInput, NoInput, GivesScript, NoScript, DueOf, stops, follows}
+use Rattle.parcae.specs.Due.{DueOfRun, DueOfScript, DueOfCommand}
+use Rattle.parcae.specs.Answers.{Looked, Answers, Holds, HoldsProgram, HoldsInput, HoldsScript, IsCalm, EndsWhole, IsComplete}
+use Rattle.parcae.proofs.Accepting.{one_accepted, not_refused}
 
--- what is due of an accepted program's text is its meaning
-text_done : (text : List ℕ) (tree : Program) (sent : Sent) (told : Told) (printed behind : List ℕ)
-    → ((a b : Program) → IsAccepted text a → IsAccepted text b → a ≡ b) → IsAccepted text tree
-    → DueOfText text told printed behind → Appends sent.before sent.after (printed ++ behind)
-    → (told ≡ finished (meaning_of tree [] turn_bound).store)
-    × Appends sent.before sent.after (number_lines (meaning_of tree [] turn_bound).store.printed)
-text_done text tree sent told printed behind one accepted (refused none t p b) h = absurd (none tree accepted)
-text_done text tree sent told printed behind one accepted (ran other m is e t p b) h =
-    let same : other ≡ tree = one other tree is accepted in
-    let store : m ≡ (meaning_of tree [] turn_bound).store =
-    ap (λ (r : Ran). r.store) (sym e) ∙ ap (λ (q : Program). (meaning_of q [] turn_bound).store) same in
-    let lines : printed ++ behind ≡ number_lines (meaning_of tree [] turn_bound).store.printed =
-    ap (λ (l : List ℕ). l ++ behind) p ∙ ap (λ (l : List ℕ). number_lines m.printed ++ l) b
-    ∙ append-nil (number_lines m.printed) ∙ ap (λ (x : Memory). number_lines x.printed) store in
-    (t ∙ ap finished store, subst (λ (l : List ℕ). Appends sent.before sent.after l) lines h)
+-- where nothing failed, a call ends whole
+ends_whole : (due : Way → Type 0) (sent : Sent) (told : Told) → ¬ (Rose sent.faults_before sent.faults) → told.status ≢ NoMemory
+    → Ends due sent told → EndsWhole due sent told
+ends_whole due sent told kept room (whole p l d h) = (p, l, d, h)
+ends_whole due sent told kept room (write_failed e b rose) = absurd (kept rose)
+ends_whole due sent told kept room (no_memory e b) = absurd (room e)
 
--- the same of a file that holds this text
-file_done : (held : Option (Option (List ℕ))) (name text : List ℕ) (tree : Program) (added before : List (List ℕ))
-    (sent : Sent) (told : Told) (printed behind : List ℕ)
-    → ((a b : Program) → IsAccepted text a → IsAccepted text b → a ≡ b)
-    → held ≡ Some (Some text) → length text ≤ program_limit → IsAccepted text tree → before ≡ before ++ added
-    → DueOfFile source.Program program_limit held name DueOfProgram added told printed behind
-    → Appends sent.before sent.after (printed ++ behind)
-    → (told ≡ finished (meaning_of tree [] turn_bound).store)
-    × Appends sent.before sent.after (number_lines (meaning_of tree [] turn_bound).store.printed)
-file_done None name text tree added before sent told printed behind one holds le accepted same d h = cc
-file_done (Some None) name text tree added before sent told printed behind one holds le accepted same d h = cc
-file_done (Some (Some held)) name text tree added before sent told printed behind one holds le accepted same (read bytes content d) h =
-    let told_same : Some held ≡ Some bytes = content.1 in
-    let is : bytes ≡ text = cc in
-    text_done text tree sent told printed behind one accepted (subst (λ (l : List ℕ). DueOfText l told printed behind) is d.1) h
-file_done (Some (Some held)) name text tree added before sent told printed behind one holds le accepted same (failed e t p b) h =
-    let grown : before ≡ before ++ name ∷ [] = same ∙ ap (λ (l : List (List ℕ)). before ++ l) e in
-    absurd (omega (arith, ap length grown, length-append before (name ∷ [])))
-file_done (Some (Some held)) name text tree added before sent told printed behind one holds le accepted same (long e l t p b) h =
-    let is : held ≡ text = cc in
-    let size : length held ≡ length text = ap length is in
-    absurd (omega (arith, size, l, le))
+-- no read failed, so no name was added
+none_added : (names added : List (List ℕ)) → names ≡ names ++ added → added ≡ []
+none_added names [] e = refl
+none_added names (x ∷ xs) e = absurd (omega (arith, ap length e, length-append names (x ∷ xs)))
+
+-- a file that is held within its limit, and whose text is not refused, is not bad
+not_bad : (src : Source) (held : Held) (name bytes : List ℕ) (refused : List ℕ → Refusal → Type 0) (added : List (List ℕ)) (r : Refusal)
+    → held ≡ Some (Some bytes) → length bytes ≤ limit_of src → added ≡ [] → ((r : Refusal) → refused bytes r → ⊥)
+    → IsBad src held name refused added r → ⊥
+not_bad src None name bytes refused added r is le none calm h = cc
+not_bad src (Some None) name bytes refused added r is le none calm h = cc
+not_bad src (Some (Some b)) name bytes refused added r is le none calm (failed e) =
+    let no_name : name ∷ [] ≡ [] = sym e ∙ none in
+    cc
+not_bad src (Some (Some b)) name bytes refused added r is le none calm (long e l) =
+    let same : b ≡ bytes = cc in
+    absurd (omega (arith, ap length same, l, le))
+not_bad src (Some (Some b)) name bytes refused added r is le none calm (text c x e content h) =
+    let told : Some b ≡ Some c = content.1 in
+    let same : c ≡ bytes = cc in
+    calm x (subst (λ (l : List ℕ). refused l x) same h)
+
+-- the content of a file is what is held
+content_is : (src : Source) (held : Held) (bytes c : List ℕ) → held ≡ Some (Some bytes) → IsContent src held c → c ≡ bytes
+content_is src None bytes c is h = cc
+content_is src (Some None) bytes c is h = cc
+content_is src (Some (Some b)) bytes c is h = let told : Some b ≡ Some c = h.1 in cc
+
+-- where a file gives just one thing, what is due follows from it
+due_follows : {A : Type 0} (none : List (List ℕ) → Refusal → Type 0) (gives : A → Type 0) (next : A → List (List ℕ) → Way → Type 0)
+    (added : List (List ℕ)) (way : Way) (x : A) → ((r : Refusal) → none added r → ⊥) → ((y : A) → gives y → y ≡ x)
+    → DueOf none gives next added way → next x added way
+due_follows none gives next added way x never only (stops r h e) = absurd (never r h)
+due_follows none gives next added way x never only (follows y g d) = subst (λ z. next z added way) (only y g) d
+
+-- two readings of a text are one
+abbrev pub One : List ℕ → Type 0
+One bytes = (p q : Program) → IsReading bytes p → IsReading bytes q → p ≡ q
+
+never_program : (looked : Looked) (file : List ℕ) (tree : Program) (added : List (List ℕ)) → ((bytes : List ℕ) → One bytes) → added ≡ []
+    → HoldsProgram looked file tree → (r : Refusal) → NoProgram looked.held file added r → ⊥
+never_program looked file tree added one none h r bad =
+    not_bad source.Program (looked.held file) file h.0 _ added r h.1.0 h.1.1 none (not_refused h.0 tree (one h.0) h.2) bad
+
+only_program : (looked : Looked) (file : List ℕ) (tree : Program) → ((bytes : List ℕ) → One bytes)
+    → HoldsProgram looked file tree → (y : Program) → GivesProgram looked.held file y → y ≡ tree
+only_program looked file tree one h y g =
+    let same : g.0 ≡ h.0 = content_is source.Program (looked.held file) h.0 g.0 h.1.0 g.1 in
+    one_accepted one h.0 y tree (subst (λ (l : List ℕ). IsAccepted l y) same g.2) h.2
+
+numbers_stand : (bytes : List ℕ) (numbers : List ℤ) → numbers_of bytes ≡ Ok numbers → (r : Refusal) → RefusesInput bytes r → ⊥
+numbers_stand bytes numbers e r (input_token at h) = let is : Ok numbers ≡ Err (input.Token at) = sym e ∙ h in cc
+numbers_stand bytes numbers e r (input_count h) = let is : Ok numbers ≡ Err input.Count = sym e ∙ h in cc
+
+never_input : (looked : Looked) (file : Option (List ℕ)) (numbers : List ℤ) (added : List (List ℕ)) → added ≡ []
+    → HoldsInput looked file numbers → (r : Refusal) → NoInput looked.held file added r → ⊥
+never_input looked None numbers added none h r bad = bad
+never_input looked (Some file) numbers added none h r bad =
+    not_bad source.Input (looked.held file) file h.0 _ added r h.1.0 h.1.1 none (numbers_stand h.0 numbers h.2) bad
+
+only_input : (looked : Looked) (file : Option (List ℕ)) (numbers : List ℤ) → HoldsInput looked file numbers
+    → (y : List ℤ) → GivesInput looked.held file y → y ≡ numbers
+only_input looked None numbers h y g = g ∙ sym h
+only_input looked (Some file) numbers h y g =
+    let same : g.0 ≡ h.0 = content_is source.Input (looked.held file) h.0 g.0 h.1.0 g.1 in
+    let is : Ok y ≡ Ok numbers = sym g.2 ∙ ap numbers_of same ∙ h.2 in
+    cc
+
+commands_stand : (bytes : List ℕ) (commands : List Order) → commands_of bytes ≡ Ok commands → (r : Refusal) → RefusesScript bytes r → ⊥
+commands_stand bytes commands e r (script_line n h) = let is : Ok commands ≡ Err n = sym e ∙ h in cc
+
+never_script : (looked : Looked) (file : List ℕ) (commands : List Order) (added : List (List ℕ)) → added ≡ []
+    → HoldsScript looked file commands → (r : Refusal) → NoScript looked.held file added r → ⊥
+never_script looked file commands added none h r bad =
+    not_bad source.Script (looked.held file) file h.0 _ added r h.1.0 h.1.1 none (commands_stand h.0 commands h.2) bad
+
+only_script : (looked : Looked) (file : List ℕ) (commands : List Order) → HoldsScript looked file commands
+    → (y : List Order) → GivesScript looked.held file y → y ≡ commands
+only_script looked file commands h y g =
+    let same : g.0 ≡ h.0 = content_is source.Script (looked.held file) h.0 g.0 h.1.0 g.1 in
+    let is : Ok y ≡ Ok commands = sym g.2 ∙ ap commands_of same ∙ h.2 in
+    cc
+
+-- without added names, what is due is due without them
+due_at_none : (due : List (List ℕ) → Way → Type 0) (added : List (List ℕ)) (way : Way) → added ≡ [] → due added way → due [] way
+due_at_none due added way none d = subst (λ (l : List (List ℕ)). due l way) none d
 
 -- a call that answers is complete
-pub completes : ((text : List ℕ) (a b : Program) → IsAccepted text a → IsAccepted text b → a ≡ b)
-    → (command : Option Command) (looked : Looked) (sent : Sent) (told : Told)
+pub completes : ((bytes : List ℕ) → One bytes) → (command : Option Command) (looked : Looked) (sent : Sent) (told : Told)
     → Answers command looked sent told → IsComplete command looked sent told
-completes one None looked sent told (added, grown, e) file text tree is holds le accepted calm kept room = cc
-completes one (Some (seq f)) looked sent told (added, grown, write_failed e b rose) file text tree is holds le accepted calm kept room = absurd (kept rose)
-completes one (Some (seq f)) looked sent told (added, grown, no_memory e b) file text tree is holds le accepted calm kept room = absurd (room e)
-completes one (Some (seq f)) looked sent told (added, grown, whole p b d h) file text tree is holds le accepted calm kept room =
-    let same : f ≡ file = cc in
-    file_done (looked.held f) f text tree added looked.failed_before sent told p b (one text)
-    (ap looked.held same ∙ holds) le accepted (sym calm ∙ grown) d h
+completes one None looked sent told (added, grown, e) = tt
+completes one (Some (seq task)) looked sent told (added, grown, e) = λ tree numbers program inputs calm.
+    let none : added ≡ [] = none_added looked.failed_before added (sym calm.reads ∙ grown) in
+    let ended = ends_whole _ sent told calm.puts calm.memory e in (
+      ended.0,
+      ended.1,
+      due_at_none (DueOfRun task tree numbers) added _ none
+          (due_follows _ _ _ added _ numbers (never_input looked task.input numbers added none inputs) (only_input looked task.input numbers inputs)
+          (due_follows _ _ _ added _ tree (never_program looked task.file tree added one none program) (only_program looked task.file tree one program) ended.2)),
+      ended.3,
+    )
+completes one (Some (replay task script log)) looked sent told (added, grown, e) = λ tree numbers commands program inputs scripts calm.
+    let none : added ≡ [] = none_added looked.failed_before added (sym calm.reads ∙ grown) in
+    let ended = ends_whole _ sent told calm.puts calm.memory e in (
+      ended.0,
+      ended.1,
+      due_at_none (DueOfScript task log tree numbers commands) added _ none
+          (due_follows _ _ _ added _ commands (never_script looked script commands added none scripts) (only_script looked script commands scripts)
+          (due_follows _ _ _ added _ numbers (never_input looked task.input numbers added none inputs) (only_input looked task.input numbers inputs)
+          (due_follows _ _ _ added _ tree (never_program looked task.file tree added one none program) (only_program looked task.file tree one program) ended.2))),
+      ended.3,
+    )

@@ -1,3 +1,6 @@
 pub mod Accepting
 pub mod Ending
+pub mod Answering
 pub mod Completing
+pub mod Loading
+pub mod Replaying

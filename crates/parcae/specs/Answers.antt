@@ -1,22 +1,26 @@
 -- What a whole call does.
-use Rattle.std.specs.Prelude.{◌≡◌, ◌≢◌, ℕ, ◌≤◌, List, [], ◌++◌, length, Some}
+use Rattle.std.specs.Prelude.{◌≡◌, ◌≢◌, ℕ, ◌≤◌, ℤ, List, [], ◌++◌, length, None, Some, Ok}
 use Rattle.std.specs.declared.option.Option.{Option}
 use Rattle.std.specs.Io.KnownBytes.{Appends}
 use Rattle.fate_io.specs.Causes.{Rose}
 use Rattle.fate_io.specs.Sending.{Sent}
 use Rattle.nona_tree.specs.declared.trees.Program.{Program}
-use Rattle.nona_tree.specs.Names.{turn_bound}
-use Rattle.nona_tree.specs.Run.{meaning_of}
-use Rattle.parcae.specs.declared.report.Status.TheVariants.{NoMemory}
-use Rattle.parcae.specs.Texts.{number_lines}
-use Rattle.parcae.specs.Told.{Told, finished}
+use Rattle.nona_store.specs.Input.{numbers_of}
+use Rattle.weave.specs.declared.script.Command.{Command as Order}
+use Rattle.morta_script.specs.Lines.{commands_of}
+use Rattle.parcae.specs.declared.refusal.Source.{Source}
+use Rattle.parcae.specs.declared.refusal.Source.TheVariants as source
+use Rattle.parcae.specs.declared.status.Status.TheVariants.{NoMemory}
+use Rattle.parcae.specs.Words.{Task, Command, seq, replay}
+use Rattle.parcae.specs.Told.{Told}
 use Rattle.parcae.specs.Accepted.{IsAccepted}
-use Rattle.parcae.specs.Ends.{Ends}
-use Rattle.parcae.specs.Due.{Command, seq, program_limit, DueOfCommand}
+use Rattle.parcae.specs.Ends.{Way, Whole, Ends}
+use Rattle.parcae.specs.Files.{Held, limit_of}
+use Rattle.parcae.specs.Due.{DueOfCommand, DueOfRun, DueOfScript}
 
 -- what a shelf shows of a call: what it holds, and the names of failed reads before and after
 pub record Looked : Type 0 where
-  pub held : List ℕ → Option (Option (List ℕ))
+  pub held : List ℕ → Held
   pub failed_before : List (List ℕ)
   pub failed : List (List ℕ)
 
@@ -25,12 +29,41 @@ abbrev pub Answers : Option Command → Looked → Sent → Told → Type 0
 Answers command looked sent told =
     (added : List (List ℕ)) × (looked.failed ≡ looked.failed_before ++ added) × Ends (DueOfCommand looked.held command added) sent told
 
--- A command over a file that is held within its limit and is an accepted program ends with the sequential meaning, and
--- writes exactly its numbers, where no read failed, the sink failed at nothing and memory was found.
+-- a file is held within its limit, with this content
+abbrev pub Holds : Looked → Source → List ℕ → List ℕ → Type 0
+Holds looked source file bytes = (looked.held file ≡ Some (Some bytes)) × (length bytes ≤ limit_of source)
+
+-- a file is held that is this program
+abbrev pub HoldsProgram : Looked → List ℕ → Program → Type 0
+HoldsProgram looked file tree = (bytes : List ℕ) × Holds looked source.Program file bytes × IsAccepted bytes tree
+
+-- a file is held that has these numbers; without a file there are none
+abbrev pub HoldsInput : Looked → Option (List ℕ) → List ℤ → Type 0
+HoldsInput looked None numbers = numbers ≡ []
+HoldsInput looked (Some file) numbers = (bytes : List ℕ) × Holds looked source.Input file bytes × (numbers_of bytes ≡ Ok numbers)
+
+-- a file is held that has these commands
+abbrev pub HoldsScript : Looked → List ℕ → List Order → Type 0
+HoldsScript looked file commands = (bytes : List ℕ) × Holds looked source.Script file bytes × (commands_of bytes ≡ Ok commands)
+
+-- nothing outside failed: no read, the sink at nothing, and memory was found
+pub record IsCalm (looked : Looked) (sent : Sent) (told : Told) : Type 0 where
+  pub reads : looked.failed ≡ looked.failed_before
+  pub puts : ¬ (Rose sent.faults_before sent.faults)
+  pub memory : told.status ≢ NoMemory
+
+-- the call ends with a report and a whole text that are due
+abbrev pub EndsWhole : (Way → Type 0) → Sent → Told → Type 0
+EndsWhole due sent told =
+    (printed later : List ℕ) × due (Whole told printed later) × Appends sent.before sent.after (printed ++ later)
+
+-- A command whose files are held within their limits, with an accepted program, an input and a script, ends with what is due
+-- of its run, whole, where nothing outside failed.
 abbrev pub IsComplete : Option Command → Looked → Sent → Told → Type 0
-IsComplete command looked sent told =
-    (file text : List ℕ) (tree : Program) → command ≡ Some (seq file)
-    → looked.held file ≡ Some (Some text) → length text ≤ program_limit → IsAccepted text tree
-    → looked.failed ≡ looked.failed_before → ¬ (Rose sent.faults_before sent.faults) → told.status ≢ NoMemory
-    → (told ≡ finished (meaning_of tree [] turn_bound).store)
-    × Appends sent.before sent.after (number_lines (meaning_of tree [] turn_bound).store.printed)
+IsComplete None looked sent told = Unit {0}
+IsComplete (Some (seq task)) looked sent told =
+    (tree : Program) (numbers : List ℤ) → HoldsProgram looked task.file tree → HoldsInput looked task.input numbers
+    → IsCalm looked sent told → EndsWhole (DueOfRun task tree numbers []) sent told
+IsComplete (Some (replay task script log)) looked sent told =
+    (tree : Program) (numbers : List ℤ) (commands : List Order) → HoldsProgram looked task.file tree → HoldsInput looked task.input numbers
+    → HoldsScript looked script commands → IsCalm looked sent told → EndsWhole (DueOfScript task log tree numbers commands []) sent told

@@ -1,66 +1,81 @@
--- What a call ends with where nothing outside fails. `due told printed behind`: with this report, after it wrote the
--- lines of the printed numbers and then what stands behind them.
-use Rattle.std.specs.Prelude.{◌≡◌, ℕ, ◌<◌, ◌≤◌, ◌^◌, List, [], ◌∷◌, length, None, Some, IfSome, IsSomeAnd, if◌then◌else◌, codes}
+-- What is due of a command.
+use Rattle.std.specs.Prelude.{◌≡◌, ℕ, Bool, true, false, if◌then◌else◌, ℤ, List, [], ◌∷◌, ◌++◌, length, None, Some}
 use Rattle.std.specs.declared.option.Option.{Option}
-use Rattle.std.specs.Str.{bytes_eq}
 use Rattle.nona_tree.specs.declared.trees.Program.{Program}
-use Rattle.nona_tree.specs.Memory.{Memory}
-use Rattle.nona_tree.specs.Names.{turn_bound}
-use Rattle.nona_tree.specs.Run.{meaning_of, done}
-use Rattle.parcae.specs.declared.report.Status.TheVariants as status
-use Rattle.parcae.specs.declared.sources.Source.{Source}
-use Rattle.parcae.specs.declared.sources.Source.TheVariants as source
-use Rattle.parcae.specs.Texts.{number_lines, usage_line, early_line, failed_line, long_line}
-use Rattle.parcae.specs.Told.{Told, bare, finished}
-use Rattle.parcae.specs.Accepted.{IsAccepted}
+use Rattle.nona_tree.specs.Memory.{Memory, Extends}
+use Rattle.nona_tree.specs.Run.{Ran, start_of, meaning_of}
+use Rattle.morta_task.specs.Entries.{EntryView, entries_of}
+use Rattle.morta_task.specs.InSequence.{image_in_sequence}
+use Rattle.morta_task.specs.LogView.{LogView, empty_log}
+use Rattle.morta_task.specs.Legal.{IsLegalLog, EndsAll, last_in}
+use Rattle.weave.specs.declared.script.Command.{Command as Order}
+use Rattle.weave.specs.Replay.{script_asks, IsReplayOf}
+use Rattle.morta_exec.specs.Lines.{number_lines}
+use Rattle.morta_exec.specs.Course.{most, IsBehind, StartsNext}
+use Rattle.morta_text.specs.Texts.{outcome_text, memory_text, log_text}
+use Rattle.parcae.specs.declared.refusal.Refusal.TheVariants.{Usage}
+use Rattle.parcae.specs.declared.status.Status.TheVariants as status
+use Rattle.parcae.specs.Words.{Task, Command, seq, replay}
+use Rattle.parcae.specs.Texts.{full_line}
+use Rattle.parcae.specs.Told.{logged, finished}
+use Rattle.parcae.specs.Ends.{Way, Whole, Early}
+use Rattle.parcae.specs.Files.{Held, DueOf, GivesProgram, NoProgram, GivesInput, NoInput, GivesScript, NoScript, refusing}
 
--- a command with its file
-pub data Command : Type 0 where
-  seq : (file : List ℕ) → Command
+-- a text, where it is asked for
+abbrev pub where_asked : Bool → List ℕ → List ℕ
+where_asked asked text = if asked then text else []
 
--- the command that words are, or none
-abbrev pub meant : List (List ℕ) → Option Command
-meant [] = None
-meant (w ∷ []) = None
-meant (w ∷ file ∷ []) = if bytes_eq w (codes "seq") then Some (seq file) else None
-meant (w ∷ file ∷ more ∷ words) = None
+-- what a run writes behind its printed numbers: its outcome, and its memory and its log where they are asked for
+abbrev pub behind_numbers : Program → Ran → Bool → List ℕ → List ℕ
+behind_numbers tree ran memory log = outcome_text ran.end ++ (where_asked memory (memory_text tree ran.store) ++ log)
 
--- the most bytes of a program's text
-abbrev pub program_limit : ℕ
-program_limit = 2 ^ 20
+-- what is due of a run in one thread: its sequential meaning
+pub data DueOfSeq (tree : Program) (ran : Ran) (memory : Bool) : Way → Type 0 where
+  ran_seq : DueOfSeq tree ran memory (Whole (finished ran empty_log) (number_lines ran.store.printed) (behind_numbers tree ran memory []))
+  seq_broken : DueOfSeq tree ran memory (Early empty_log (number_lines ran.store.printed))
 
--- a program's text, run: its sequential meaning's numbers, or its refusal
-pub data DueOfText (text : List ℕ) (told : Told) (printed behind : List ℕ) : Type 0 where
-  ran : (tree : Program) (m : Memory) → IsAccepted text tree → meaning_of tree [] turn_bound ≡ done m
-      → told ≡ finished m → printed ≡ number_lines m.printed → behind ≡ [] → DueOfText text told printed behind
-  refused : ((tree : Program) → IsAccepted text tree → ⊥)
-      → told ≡ bare status.Refused → printed ≡ [] → behind ≡ early_line → DueOfText text told printed behind
+-- the entries of a program's run
+abbrev pub entries_in : Program → List ℤ → ℕ → List EntryView
+entries_in tree numbers turns = entries_of (image_in_sequence tree) turns (start_of tree numbers)
 
--- a file's content within the limit is these bytes, as far as the shelf tells it
-abbrev pub IsContent : ℕ → Option (Option (List ℕ)) → List ℕ → Type 0
-IsContent limit held bytes = (length bytes ≤ limit) × IfSome held (λ content. content ≡ Some bytes)
+-- the first intervals of a replay: they are legal, each request is the script's, and each did what the script says
+pub record IsReplayed (commands : List Order) (es : List EntryView) (log : LogView) : Type 0 where
+  pub legal : IsLegalLog (λ e so_far ask. ask ≡ script_asks commands so_far) es log
+  pub replayed : IsReplayOf commands log
 
--- a file's content is longer than the limit, as far as the shelf tells it
-abbrev pub IsLong : ℕ → Option (Option (List ℕ)) → Type 0
-IsLong limit held = IfSome held (λ content. IsSomeAnd content (λ bytes. limit < length bytes))
+-- What is due of a replay: the sequential meaning and the whole log; or, where the log is full, the numbers printed where the
+-- next interval would start; or, where something fails before, a front of the numbers printed at a place behind the log's
+-- intervals, which the sequential meaning prints too.
+pub data DueOfReplay (tree : Program) (es : List EntryView) (ran : Ran) (commands : List Order) (memory log : Bool) : Way → Type 0 where
+  ran_replay : (l : LogView) → IsReplayed commands es l → EndsAll es (last_in l.intervals)
+      → DueOfReplay tree es ran commands memory log
+      (Whole (finished ran l) (number_lines ran.store.printed) (behind_numbers tree ran memory (where_asked log (log_text l))))
+  log_full : (l : LogView) (m : Memory) → IsReplayed commands es l → length l.intervals ≡ most → StartsNext es l.intervals m
+      → Extends m.printed ran.store.printed
+      → DueOfReplay tree es ran commands memory log (Whole (logged status.LogFull l) (number_lines m.printed) full_line)
+  replay_broken : (l : LogView) (m : Memory) → IsReplayed commands es l → IsBehind es ran.store l.intervals m
+      → Extends m.printed ran.store.printed → DueOfReplay tree es ran commands memory log (Early l (number_lines m.printed))
 
--- A file that is read, and what is due of its content. `added`: the names of failed reads that the call adds to the shelf's.
-pub data DueOfFile (source : Source) (limit : ℕ) (held : Option (Option (List ℕ))) (name : List ℕ)
-    (content : List ℕ → List (List ℕ) → Told → List ℕ → List ℕ → Type 0)
-    (added : List (List ℕ)) (told : Told) (printed behind : List ℕ) : Type 0 where
-  read : (bytes : List ℕ) → IsContent limit held bytes → content bytes added told printed behind
-      → DueOfFile source limit held name content added told printed behind
-  failed : added ≡ name ∷ [] → told ≡ bare status.ReadFailed → printed ≡ [] → behind ≡ failed_line source
-      → DueOfFile source limit held name content added told printed behind
-  long : added ≡ [] → IsLong limit held → told ≡ bare status.TooLong → printed ≡ [] → behind ≡ long_line source
-      → DueOfFile source limit held name content added told printed behind
+-- all files were read, and none of the reads failed
+abbrev pub AllRead : (Way → Type 0) → List (List ℕ) → Way → Type 0
+AllRead due added way = (added ≡ []) × due way
 
--- a program's text that was read and run, with no more files
-abbrev pub DueOfProgram : List ℕ → List (List ℕ) → Told → List ℕ → List ℕ → Type 0
-DueOfProgram text added told printed behind = (added ≡ []) × DueOfText text told printed behind
+-- what is due of a run of this program over this input
+abbrev pub DueOfRun : Task → Program → List ℤ → List (List ℕ) → Way → Type 0
+DueOfRun task tree numbers = AllRead (DueOfSeq tree (meaning_of tree numbers task.turns) task.memory)
 
--- a command, or words that are none
-abbrev pub DueOfCommand : (List ℕ → Option (Option (List ℕ))) → Option Command → List (List ℕ) → Told → List ℕ → List ℕ → Type 0
-DueOfCommand held (Some (seq file)) added told printed behind =
-    DueOfFile source.Program program_limit (held file) file DueOfProgram added told printed behind
-DueOfCommand held None added told printed behind = (added ≡ []) × (told ≡ bare status.Usage) × (printed ≡ []) × (behind ≡ usage_line)
+-- what is due of the replay of these commands over this program and this input
+abbrev pub DueOfScript : Task → Bool → Program → List ℤ → List Order → List (List ℕ) → Way → Type 0
+DueOfScript task log tree numbers commands =
+    AllRead (DueOfReplay tree (entries_in tree numbers task.turns) (meaning_of tree numbers task.turns) commands task.memory log)
+
+-- what is due of a command: the program comes first, then the input, then the script
+abbrev pub DueOfCommand : (List ℕ → Held) → Option Command → List (List ℕ) → Way → Type 0
+DueOfCommand held None added way = (added ≡ []) × (way ≡ refusing Usage)
+DueOfCommand held (Some (seq task)) added way =
+    DueOf (NoProgram held task.file) (GivesProgram held task.file) (λ tree.
+    DueOf (NoInput held task.input) (GivesInput held task.input) (λ numbers. DueOfRun task tree numbers)) added way
+DueOfCommand held (Some (replay task script log)) added way =
+    DueOf (NoProgram held task.file) (GivesProgram held task.file) (λ tree.
+    DueOf (NoInput held task.input) (GivesInput held task.input) (λ numbers.
+    DueOf (NoScript held script) (GivesScript held script) (λ commands. DueOfScript task log tree numbers commands))) added way

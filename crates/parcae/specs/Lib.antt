@@ -1,6 +1,10 @@
-pub mod Texts
+pub mod Words
+pub mod Meant
 pub mod Told
+pub mod Texts
 pub mod Accepted
+pub mod Refusing
 pub mod Ends
+pub mod Files
 pub mod Due
 pub mod Answers

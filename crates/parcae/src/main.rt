@@ -1,13 +1,16 @@
 //! Runs programs of a small language whose parallel loops change shape while they run.
 #![tactic(auto)]
 
-mod lines;
+mod files;
+mod refusal;
+mod replays;
 mod report;
-mod seq;
-mod sources;
+mod runs;
+mod status;
 mod still;
 #[cfg(test)]
 mod tests;
+mod words;
 
 use fate_io::{FileShelf, OutSink};
 use std::process::ExitCode;

@@ -1,78 +1,63 @@
 ghost use Rattle.std.specs.Prelude.{◌≡◌};
-ghost use Rattle.parcae.specs.Told.{told_of, bare, finished};
-ghost use Rattle.parcae.specs.Ends.{status_of, end_of};
+ghost use Rattle.parcae.specs.Told.{status_of, told_of, bare, logged, broken_status, ended_told};
 
+use crate::status::Status;
 use fate_io::SendFault;
+use morta_task::Log;
 use nona_store::Store;
 use nona_tree::Outcome;
+use std::alloc::Global;
 
-/// How a call ended.
-#[derive(Clone, Copy, Debug, PartialEq, Eq)]
-pub enum Status {
-    /// The program ran to its end.
-    Done,
-    /// The words are no command.
-    Usage,
-    /// The text is no program of the language so far.
-    Refused,
-    /// A file couldn't be read.
-    ReadFailed,
-    /// The sink failed.
-    WriteFailed,
-    /// Memory ran out.
-    NoMemory,
-    /// A file holds more than it may.
-    TooLong,
-}
-
-impl Status {
-    /// The exit status of the program that ends so.
-    pub fn code(self) -> u8 {
-        match self {
-            Status::Done => 0,
-            Status::Usage => 10,
-            Status::Refused => 11,
-            Status::ReadFailed => 14,
-            Status::WriteFailed => 15,
-            Status::NoMemory => 16,
-            Status::TooLong => 17,
-        }
-    }
-}
-
-/// What a call tells beside the text that it writes. The outcome and the store are there where a program ran to its
-/// end and its numbers were written.
-#[derive(Debug, Drop)]
+/// What a call tells beside the text that it writes.
+///
+/// The outcome and the store are there after a run that ended and whose numbers were written, also where what stands behind
+/// them was broken off. The log has the intervals that were logged, up to the end or the fault.
+#[derive(Drop)]
 pub struct Report {
     pub status: Status,
     pub outcome: Option<Outcome>,
     pub store: Option<Store>,
+    pub log: Log,
 }
 
 /// A report of nothing but its status.
-pub fn bare(status: Status) -> Report
+pub fn bare(alloc: Global, status: Status) -> Report
     ensures { told_of result ≡ bare status }
 {
     Report {
         status,
         outcome: None,
         store: None,
+        log: Log::new(alloc),
     }
 }
 
-/// The report of a program that ran to its end in this store.
-pub fn finished(store: Store) -> Report
-    ensures { told_of result ≡ finished store }
+/// A report of nothing but its status and a log.
+pub fn logged(status: Status, log: Log) -> Report
+    ensures { told_of result ≡ logged status log }
 {
     Report {
-        status: Status::Done,
-        outcome: Some(Outcome::Done),
-        store: Some(store),
+        status,
+        outcome: None,
+        store: None,
+        log,
     }
 }
 
-fn status_of(fault: SendFault) -> Status
-    ensures { result ≡ status_of fault }
+/// The status of a run that ended so.
+fn status_of(outcome: Outcome) -> Status
+    ensures { result ≡ status_of outcome }
+{
+    match outcome {
+        Outcome::Done => Status::Done,
+        Outcome::Trap(_) => Status::Trap,
+        Outcome::OutOfTurns { .. } => Status::OutOfTurns,
+    }
+}
+
+/// The status of a call that a fault broke off.
+pub fn broken_status(fault: SendFault) -> Status
+    ensures { result ≡ broken_status fault }
 {
     match fault {
         SendFault::WriteFailed => Status::WriteFailed,
@@ -80,13 +65,18 @@ fn status_of(fault: SendFault) -> Status
     }
 }
 
-/// The report of a call whose printed numbers, or whose only line, were sent with this result: this one, or one of
-/// nothing but the fault's status.
-pub fn end_of(sent: Result<(), SendFault>, report: Report) -> Report
-    ensures { told_of result ≡ end_of sent (told_of report) }
+/// The report of a run that ended so, once what stands behind its numbers was sent with this result.
+pub fn ended(sent: Result<(), SendFault>, outcome: Outcome, store: Store, log: Log) -> Report
+    ensures { told_of result ≡ ended_told sent (record { store = store; end = outcome }) log }
 {
-    match sent {
-        Ok(()) => report,
-        Err(fault) => bare(status_of(fault)),
+    let status = match sent {
+        Ok(()) => status_of(outcome),
+        Err(fault) => broken_status(fault),
+    };
+    Report {
+        status,
+        outcome: Some(outcome),
+        store: Some(store),
+        log,
     }
 }

@@ -1,27 +1,66 @@
-ghost use Rattle.std.specs.Prelude.{◌≡◌, map, string_bytes, MatchOption, None, Some};
+ghost use Rattle.std.specs.Prelude.{◌≡◌, ◌≤◌, map, string_bytes, Some};
 ghost use Rattle.parcae.specs.Told.{told_of};
-ghost use Rattle.parcae.specs.Due.{seq, meant};
+ghost use Rattle.parcae.specs.Words.{seq, replay, turn_limit, meant};
+ghost use Rattle.parcae.specs.Meant.{task_of};
 ghost use Rattle.parcae.specs.Answers.{Answers, IsComplete};
 
-use crate::report::{Report, Status, bare, end_of};
-use crate::seq::seq;
-use fate_io::{Shelf, Sink, send};
+use crate::files::{input_in, program_in, script_in};
+use crate::refusal::{Refusal, refuse};
+use crate::replays::replay_script;
+use crate::report::Report;
+use crate::runs::{Asked, run_in_sequence};
+use crate::words::{Command, Run, command_of};
+use fate_io::{Shelf, Sink};
 use nona_parse::reads_one_tree;
 use std::alloc::Global;
 
-/// The file of the words `seq FILE`.
-fn seq_file(words: &[String]) -> Option<&str>
-    ensures { MatchOption result (meant (map string_bytes words.now) ≡ None) (λ file. meant (map string_bytes words.now) ≡ Some (seq file.now)) }
+/// The command `seq`: runs a program in one thread.
+fn seq<S: Shelf, K: Sink>(alloc: Global, run: Run<'_>, shelf: &mut S, out: &mut K) -> Report
+    ensures same { S.held shelf.new ≡ S.held shelf.old }
+    ensures answers { Answers (Some (seq (task_of run.entry)))
+        (record { held = S.held shelf.old; failed_before = S.failed shelf.old; failed = S.failed shelf.new })
+        (record { before = K.written out.old; after = K.written out.new; faults_before = K.faults out.old; faults = K.faults out.new }) (told_of result) }
 {
-    match words {
-        [command, file] => {
-            if command.as_str() == "seq" {
-                Some(file.as_str())
-            } else {
-                None
-            }
-        }
-        _ => None,
+    match program_in(alloc, run.file, shelf) {
+        Ok(program) => match input_in(alloc, run.input, shelf) {
+            Ok(input) => run_in_sequence(alloc, &program, input, run.turns, run.memory, out),
+            Err(refusal) => refuse(alloc, refusal, out),
+        },
+        Err(refusal) => refuse(alloc, refusal, out),
+    }
+}
+
+/// The command `replay`: replays a script over a program.
+fn replay<S: Shelf, K: Sink>(
+    alloc: Global,
+    run: Run<'_>,
+    script: &str,
+    log: bool,
+    shelf: &mut S,
+    out: &mut K,
+) -> Report
+    requires some_turns { 1 ≤ run.turns }
+    requires few_turns { run.turns ≤ turn_limit }
+    ensures same { S.held shelf.new ≡ S.held shelf.old }
+    ensures answers { Answers (Some (replay (task_of run.entry) script.now log))
+        (record { held = S.held shelf.old; failed_before = S.failed shelf.old; failed = S.failed shelf.new })
+        (record { before = K.written out.old; after = K.written out.new; faults_before = K.faults out.old; faults = K.faults out.new }) (told_of result) }
+{
+    match program_in(alloc, run.file, shelf) {
+        Ok(program) => match input_in(alloc, run.input, shelf) {
+            Ok(input) => match script_in(alloc, script, shelf) {
+                Ok(script) => {
+                    let asked = Asked {
+                        memory: run.memory,
+                        log,
+                    };
+                    replay_script(alloc, &program, input, script, run.turns, asked, out)
+                }
+                Err(refusal) => refuse(alloc, refusal, out),
+            },
+            Err(refusal) => refuse(alloc, refusal, out),
+        },
+        Err(refusal) => refuse(alloc, refusal, out),
     }
 }
 
@@ -31,21 +70,30 @@ fn still<S: Shelf, K: Sink>(alloc: Global, words: &[String], shelf: &mut S, out:
         (record { held = S.held shelf.old; failed_before = S.failed shelf.old; failed = S.failed shelf.new })
         (record { before = K.written out.old; after = K.written out.new; faults_before = K.faults out.old; faults = K.faults out.new }) (told_of result) }
 {
-    match seq_file(words) {
-        Some(file) => seq(alloc, file, shelf, out),
-        None => end_of(send(out, b"usage\n"), bare(Status::Usage)),
+    match command_of(words) {
+        Some(Command::Seq(run)) => seq(alloc, run, shelf, out),
+        Some(Command::Replay { run, script, log }) => replay(alloc, run, script, log, shelf, out),
+        None => refuse(alloc, Refusal::Usage, out),
     }
 }
 
-/// Does a command that waits for nobody: `seq FILE` runs the program that the shelf holds under this name, in one
-/// thread, and writes each number that it prints on a line. It always returns.
+/// Does a command that waits for nobody, and always returns.
 ///
-/// The report's status is `Done` where the program ran to its end, with its outcome and store; `Usage` where the words
-/// are no command; `Refused` where the text is no program of the language so far; `TooLong` where the file holds more
-/// than 1,048,576 bytes; each of these after exactly its own text was written, by one put for each line. It is
-/// `ReadFailed` only where this call added the file's name to the shelf's failed names, `WriteFailed` only where the
-/// sink's count of faults rose in this call, and `NoMemory` where memory ran out. After the last two what was written
-/// is a front of what was due.
+/// - `seq FILE [INPUT] [--turns N] [--memory]` runs the program that the shelf holds under the first name, over the numbers
+///   that it holds under the second, in one thread.
+/// - `replay FILE [INPUT] --script S [--turns N] [--memory] [--log]` replays the script that it holds under S over them.
+///
+/// The words stand in this order; no name begins with `-`, and N, how many turns a loop may take whenever it is entered, is
+/// from 1 to 10^12, and 10^9 where it isn't said. Each printed number is written on a line, then the outcome where it is not
+/// done, the memory and the log where they are asked for, by one put for each line.
+///
+/// The report's status is `Done`, `Trap` or `OutOfTurns` by the program's sequential meaning, with its outcome and store, and
+/// with the log; `LogFull` where an interval would be the 1,048,577th, after the numbers printed where it would start; `Usage`
+/// where the words are no command; `Refused`, `Input` or `Script` where a text is refused, by its first fault; `TooLong` where
+/// a file holds more than it may; each of these after exactly its own text was written. It is `ReadFailed` only where this
+/// call added the file's name to the shelf's failed names, `WriteFailed` only where the sink's count of faults rose in this
+/// call, and `NoMemory` where memory ran out. After the last two what was written is a front of what was due, and the log has
+/// the intervals up to there.
 pub fn parcae_still<S: Shelf, K: Sink>(
     alloc: Global,
     words: &[String],
@@ -58,7 +106,7 @@ pub fn parcae_still<S: Shelf, K: Sink>(
     ensures answers { Answers (meant (map string_bytes words.now))
         (record { held = S.held shelf.old; failed_before = S.failed shelf.old; failed = S.failed shelf.new })
         (record { before = K.written out.old; after = K.written out.new; faults_before = K.faults out.old; faults = K.faults out.new }) (told_of result) }
-    // An accepted program ends with its sequential meaning where nothing outside fails.
+    // A command over held files ends with what is due of its run, whole, where nothing outside fails.
     ensures complete { IsComplete (meant (map string_bytes words.now))
         (record { held = S.held shelf.old; failed_before = S.failed shelf.old; failed = S.failed shelf.new })
         (record { before = K.written out.old; after = K.written out.new; faults_before = K.faults out.old; faults = K.faults out.new }) (told_of result) }

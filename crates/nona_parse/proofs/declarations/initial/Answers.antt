@@ -1,26 +1,26 @@
-use Rattle.std.proofs.Common.{pos, [], ◌∷◌, refl, ap, ◌∙◌}
+use Rattle.std.proofs.Common.{rules, ◌≡◌, ℕ, pos, [], ◌∷◌, List, refl, ◌∙◌}
+use Rattle.std.proofs.lemmas.Result.{MatchResult-weaker}
 use Rattle.nona_lex.specs.declared.tokens.Sign.TheVariants as sign
 use Rattle.nona_lex.specs.declared.tokens.Token.TheVariants as token
 use Rattle.nona_grammar.specs.Levels.{named}
-use Rattle.nona_grammar.specs.Stack.{Var}
-use Rattle.nona_grammar.specs.Machine.{Init, InitNumber, Want}
+use Rattle.nona_grammar.specs.Stack.{Trees, Var}
+use Rattle.nona_grammar.specs.Machine.{Sym, Init, InitNumber, Want, build}
 use Rattle.nona_grammar.proofs.Machining.{acted}
 use Rattle.nona_parse.proofs.Build.{taken, fails_in}
 use Rattle.nona_parse.proofs.declarations.initial.Goals as goal
 
 pub returns-in-Sign-Semicolon-clause-read : goal.returns-in-Sign-Semicolon-clause-read
-returns-in-Sign-Semicolon-clause-read c = λ n at k v.
-    taken c.args.end (Init n at) k v c.args.spots.now c.in-Some.first.now c.in-Some.later.now (token.Sign sign.Semicolon) _ c.in-Some.ensures
-    (c.in-Sign-Semicolon.is ∙ ap token.Sign (rw c.in-Sign-Semicolon.is at c.in-Sign-Semicolon.field-0-is)) refl
-    ∙ acted c.args.end (Var (record { name = named n at; value = pos 0 })) k v c.in-Some.later.now
+returns-in-Sign-Semicolon-clause-read c = λ n at end k v.
+    let is : c.in-Some.first.now.token ≡ token.Sign sign.Semicolon = search rules in
+    taken end (Init n at) k v c.args.spots.now c.in-Some.first.now c.in-Some.later.now (token.Sign sign.Semicolon) _ c.in-Some.ensures is refl
+    ∙ acted end (Var (record { name = named n at; value = pos 0 })) k v c.in-Some.later.now
 
-pub returns-in-Err-clause-read : goal.returns-in-Err-clause-read
-returns-in-Err-clause-read c = λ n at.
-    fails_in c.in-Err.fault c.args.end (Init n at ∷ []) (InitNumber n at ∷ []) c.args.spots.now c.in-Some.later.now
-    (λ k v. (
-      Want sign.Semicolon ∷ k,
-      v,
-      taken c.args.end (Init n at) k v c.args.spots.now c.in-Some.first.now c.in-Some.later.now (token.Sign sign.Set) _ c.in-Some.ensures
-          (c.in-Sign-Set.is ∙ ap token.Sign (rw c.in-Sign-Set.is at c.in-Sign-Set.field-0-is)) refl,
-    ))
-    (c.in-Err.ensures.value n at)
+pub returns-in-Sign-Set-clause-read : goal.returns-in-Sign-Set-clause-read
+returns-in-Sign-Set-clause-read c = λ n at.
+    let is : c.in-Some.first.now.token ≡ token.Sign sign.Set = search rules in
+    let turn : (end : ℕ) (k : List Sym) (v : Trees)
+    → build end (Init n at ∷ k) v c.args.spots.now ≡ build end (InitNumber n at ∷ Want sign.Semicolon ∷ k) v c.in-Some.later.now =
+    λ end k v. taken end (Init n at) k v c.args.spots.now c.in-Some.first.now c.in-Some.later.now (token.Sign sign.Set) _ c.in-Some.ensures is refl in
+    MatchResult-weaker c.number_and_end.result (c.number_and_end.ensures.read n at)
+    (λ x goes end k v. turn end k v ∙ goes end k v)
+    (λ f stuck. fails_in f (Init n at ∷ []) (InitNumber n at ∷ Want sign.Semicolon ∷ []) c.args.spots.now c.in-Some.later.now (λ end k v. (k, v, turn end k v)) stuck)

@@ -1,18 +1,16 @@
-use Rattle.std.proofs.Common.{◌≡◌, [], ◌∷◌, length, Ok, Err, ap, subst, ◌∙◌}
-use Rattle.nona_lex.specs.declared.tokens.Tokens.{Tokens}
-use Rattle.nona_lex.specs.Bounds.{tokens_of}
-use Rattle.nona_grammar.specs.Stack.{empty, whole_of}
-use Rattle.nona_grammar.specs.Machine.{Decls, Stmts, build}
-use Rattle.nona_parse.specs.declared.fault.ParseFault.TheVariants as parse
-use Rattle.nona_parse.specs.Steps.{IsStuck}
+use Rattle.std.proofs.lemmas.Result.{MatchResult-weaker}
+use Rattle.nona_parse.proofs.Refusals.{answered, every_read, small_program}
 use Rattle.nona_parse.proofs.program.parse.Goals as goal
 
-pub returns-clause-early : goal.returns-clause-early
-returns-clause-early c = λ e p a.
-    let early : c.without_place.result ≡ parse.Early = cc in
-    let fault = c.without_place.ensures early in
-    let end = length c.args.text.now in
-    let spots : c.as_slice.result.now ≡ (tokens_of c.args.text.now).spots = c.as_slice.ensures ∙ ap (λ (t : Tokens). t.spots) c.in-Ok.ensures.exact in
-    let stuck : build end (Decls ∷ Stmts ∷ []) empty c.as_slice.result.now ≡ Err fault.0 = subst (λ f. IsStuck f end c.as_slice.result.now) fault.1 c.in-Err.ensures.built in
-    let built : build end (Decls ∷ Stmts ∷ []) empty (tokens_of c.args.text.now).spots ≡ Ok (whole_of p) = c.grammar_is_read.ensures.complete end (tokens_of c.args.text.now).spots p a.1 in
-    absurd (cc)
+pub returns-clause-small : goal.returns-clause-small
+returns-clause-small c =
+    let text = c.args.text.now in
+    let answer = answered text c.in-Ok.tokens c.as_slice.result.now c.read_program-read.result c.answer.result c.in-Ok.ensures.exact c.as_slice.ensures c.read_program-read.ensures c.answer.ensures in
+    MatchResult-weaker c.answer.result answer
+    (λ p read. small_program c.tokens_are_few.ensures c.programs_are_small.ensures.size c.programs_are_small.ensures.nesting text p c.requires read) (λ f refusal. tt)
+
+pub returns-clause-every : goal.returns-clause-every
+returns-clause-every c =
+    let text = c.args.text.now in
+    let answer = answered text c.in-Ok.tokens c.as_slice.result.now c.read_program-read.result c.answer.result c.in-Ok.ensures.exact c.as_slice.ensures c.read_program-read.ensures c.answer.ensures in
+    every_read c.grammar_is_read.ensures.one_tree text c.answer.result answer

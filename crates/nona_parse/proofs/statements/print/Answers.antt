@@ -4,6 +4,7 @@ use Rattle.nona_grammar.specs.Machine.{Do}
 use Rattle.nona_grammar.proofs.Machining.{acted}
 use Rattle.nona_parse.proofs.statements.print.Goals as goal
 
-pub returns-in-Ok-clause-read : goal.returns-in-Ok-clause-read
-returns-in-Ok-clause-read c = λ k v.
-    c.in-Ok.ensures.read (Do (Show c.args.at) ∷ k) v ∙ acted c.args.end (Show c.args.at) k (push c.in-Ok.value v) c.in-Ok.rest.now
+pub returns-clause-read : goal.returns-clause-read
+returns-clause-read c = λ end k v.
+    let a = Show c.args.at in
+    c.in_ok-value.ensures.read end (Do a ∷ k) v ∙ acted end a k (push c.in_ok-value.value v) c.in_ok-value.rest.now

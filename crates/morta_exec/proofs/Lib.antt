@@ -1,0 +1,13 @@
+pub mod Putting
+pub mod Loops
+pub mod Ending
+pub mod Growing
+pub mod Asking
+pub mod Turning
+pub mod Stopping
+pub mod Passing
+pub mod Coming
+pub mod Onward
+pub mod Printing
+pub mod Starting
+pub mod Driven

@@ -1,0 +1,34 @@
+use Rattle.std.proofs.Common.{sym, subst, arith}
+use Rattle.morta_exec.specs.declared.fault.DriveFault.TheVariants.{NoMemory}
+use Rattle.morta_exec.specs.Puts.{sent_since}
+use Rattle.morta_exec.specs.EntryRun.{Stopped}
+use Rattle.morta_exec.proofs.Stopping.{handed_on, stopped_memory}
+use Rattle.morta_exec.proofs.Passing.{interval_prints, shown_front, stopped_turn, goes_on_at, added_one}
+use Rattle.morta_exec.proofs.entry_run.turn_and_show.Goals as goal
+
+pub show-requires : goal.show-requires
+show-requires g c =
+    let on = interval_prints c.args.entry.now c.args.handoff c.in_ok-after.after c.args.log.now c.turn.new.log c.in_ok-after.interval c.requires.stands.state c.in_ok-after.ensures.turned in
+    let front = shown_front _ _ _ c.printed-shown.result.now c.printed-shown.ensures on c.requires.put in
+    record { shown = front.0; put = front.1 }
+
+pub returns-in_err-after-clause-stopped : goal.returns-in_err-after-clause-stopped
+returns-in_err-after-clause-stopped g c =
+    handed_on _ c.from_residual.result _ c.from_residual.ensures.1
+    (subst (λ l. Stopped g.M.Morta.promise c.args.image.now c.args.start.now.turns c.args.start.now.store.value c.args.start.now.morta.value l (sent_since g.K.Sink.written g.K.Sink.faults c.args.start.now.out.value c.args.out.now) NoMemory) (sym c.in_err-after.ensures.err)
+    (stopped_memory g.M.Morta.promise c.args.image.now c.args.start.now.turns c.args.start.now.store.value c.args.start.now.morta.value c.args.morta.now c.args.entry.now c.args.kept c.args.log.now c.args.handoff _
+    c.requires.entry c.requires.stands c.requires.put (omega (arith, c.requires.room))))
+
+pub returns-in_err-show-clause-stopped : goal.returns-in_err-show-clause-stopped
+returns-in_err-show-clause-stopped g c =
+    handed_on _ c.from_residual-in_err-show.result _ c.from_residual-in_err-show.ensures.1
+    (stopped_turn g.M.Morta.promise c.args.image.now c.args.start.now.turns c.args.start.now.store.value c.args.start.now.morta.value c.turn.new.morta c.args.entry.now c.args.handoff.next c.args.log.now c.turn.new.log c.in_ok-after.after c.in_ok-after.interval _ c.in_err-show.field-0.0
+    c.requires.entry c.in_ok-after.ensures.stands c.in_ok-after.ensures.turned c.requires.room c.in_err-show.ensures.sent c.show.ensures.later)
+
+pub returns-clause-goes_on : goal.returns-clause-goes_on
+returns-clause-goes_on g c =
+    goes_on_at g.M.Morta.promise _ _ c.turn.new.morta c.args.entry.now c.args.handoff.next c.args.log.now c.turn.new.log c.in_ok-after.after c.in_ok-after.interval c.loop_end-end.result
+    c.requires.entry.of_run.named c.in_ok-after.ensures.stands c.in_ok-after.ensures.turned c.loop_end-end.ensures
+
+pub returns-clause-added : goal.returns-clause-added
+returns-clause-added g c = added_one c.args.entry.now c.args.handoff.next c.args.log.now c.turn.new.log c.in_ok-after.after c.in_ok-after.interval c.in_ok-after.ensures.turned

@@ -1,0 +1,61 @@
+-- What the run of an entry does.
+use Rattle.std.specs.Prelude.{◌≡◌, ℕ, ◌<◌, ◌≤◌, List, length, None, Some}
+use Rattle.std.specs.declared.option.Option.{Option}
+use Rattle.fate_io.specs.Sending.{Sent}
+use Rattle.nona_tree.specs.declared.outcomes.Outcome.{Outcome}
+use Rattle.nona_tree.specs.declared.outcomes.Outcome.TheVariants.{Done}
+use Rattle.nona_tree.specs.declared.trees.Stmt.{For}
+use Rattle.nona_tree.specs.Memory.{Memory, Extends}
+use Rattle.nona_tree.specs.Run.{Ran, run, run_all}
+use Rattle.nona_walk.specs.Reached.{Reaches}
+use Rattle.morta_task.specs.declared.intervals.Interval.{Interval}
+use Rattle.morta_task.specs.declared.intervals.Handoff.{Handoff}
+use Rattle.morta_task.specs.ImageView.{ImageView}
+use Rattle.morta_task.specs.Entries.{EntryView, entries_of, last, before, state_after}
+use Rattle.morta_task.specs.LogView.{LogView}
+use Rattle.morta_task.specs.Promise.{Promise}
+use Rattle.morta_task.specs.Legal.{last_in, GoesOnBehind, IsClosed}
+use Rattle.morta_exec.specs.declared.fault.DriveFault.{DriveFault}
+use Rattle.morta_exec.specs.Course.{most, LogStands}
+use Rattle.morta_exec.specs.Drive.{StopsShort}
+use Rattle.morta_exec.specs.Standing.{Stands, StandsAt, IsOfRun}
+
+-- the run of the whole loop of an entry
+unfoldable pub whole_loop : EntryView → Ran
+whole_loop e = run (For e.looped) e.turns e.store
+
+-- An entry goes on behind what an interval did; or its whole loop has ended so, in the store behind that interval.
+abbrev pub EndsWith : EntryView → Interval → Option Outcome → Type 0
+EndsWith e i None = (before e i.done.to < before e (last e)) × GoesOnBehind i.done.cut
+EndsWith e i (Some end) =
+    Reaches (whole_loop e) (state_after e (before e i.done.to)).store end
+    × (GoesOnBehind i.done.cut → i.done.to ≡ last e) × (end ≡ Done → GoesOnBehind i.done.cut)
+
+-- an entry was run to the end of its loop, and the log's last interval is its last
+pub record HasEnded {M : Type 0} (promise : Promise M) (es : List EntryView) (first now : M) (e : EntryView) (log : LogView) (store : Memory) (end : Outcome) : Type 0 where
+  pub stands : Stands promise es first now log
+  pub reaches : Reaches (whole_loop e) store end
+  pub counted : length log.entries ≡ e.number
+  pub interval : Interval
+  pub is_last : last_in log.intervals ≡ Some interval
+  pub number : interval.entry ≡ e.number
+  pub state : store ≡ (state_after e (before e interval.done.to)).store
+  pub closed : GoesOnBehind interval.done.cut → IsClosed es interval
+  pub goes_on : end ≡ Done → GoesOnBehind interval.done.cut
+
+-- behind an interval an entry goes on, or has ended
+abbrev pub GoesOnAt : {M : Type 0} → Promise M → List EntryView → M → M → EntryView → LogView → Handoff → Option Outcome → Type 0
+GoesOnAt promise es first now e log handoff None = StandsAt promise es first now e None log handoff
+GoesOnAt promise es first now e log handoff (Some end) = HasEnded promise es first now e log handoff.store end
+
+-- a run of this image from this store that stopped short, with its log
+pub record Stopped {M : Type 0} (promise : Promise M) (image : ImageView) (n : ℕ) (m : Memory) (first : M) (log : LogView) (sent : Sent) (fault : DriveFault) : Type 0 where
+  pub log_stands : LogStands promise (entries_of image n m) first log
+  pub few : length log.intervals ≤ most
+  pub later : sent.faults_before ≤ sent.faults
+  pub stops : StopsShort (entries_of image n m) (run_all image.main n m).store log.intervals sent fault
+
+-- an entry of a run of this image from this store, whose loop prints no more than the whole run
+pub record IsOn (image : ImageView) (n : ℕ) (m : Memory) (e : EntryView) : Type 0 where
+  pub of_run : IsOfRun image (entries_of image n m) e
+  pub leads : Extends (whole_loop e).store.printed (run_all image.main n m).store.printed

@@ -1,0 +1,8 @@
+pub mod Lines
+pub mod Course
+pub mod Drive
+pub mod Faults
+pub mod Puts
+pub mod Standing
+pub mod EntryRun
+pub mod MainRun

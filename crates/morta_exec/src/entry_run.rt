@@ -1,0 +1,146 @@
+//! One entry, interval by interval.
+ghost use Rattle.std.specs.Prelude.{◌≡◌, ◌+◌, ◌<◌, ◌≤◌, length, IfOk, IfErr, OnOk, None, Some};
+ghost use Rattle.std.specs.Int.{int_gap};
+ghost use Rattle.nona_tree.specs.Memory.{Memory};
+ghost use Rattle.nona_tree.specs.Run.{done};
+ghost use Rattle.nona_walk.specs.Reached.{Reaches};
+ghost use Rattle.morta_task.specs.Entries.{entries_of, IsEntered, last, before, state_after};
+ghost use Rattle.morta_task.specs.Running.{IsIn, IsDone, limit_of};
+ghost use Rattle.morta_exec.specs.Course.{most, ServesAll};
+ghost use Rattle.morta_exec.specs.Puts.{sent_since, HasPut};
+ghost use Rattle.morta_exec.specs.Standing.{StandsAt};
+ghost use Rattle.morta_exec.specs.EntryRun.{whole_loop, EndsWith, HasEnded, GoesOnAt, Stopped, IsOn};
+
+use crate::fault::DriveFault;
+use crate::lines::show;
+use crate::start::Start;
+use crate::turn::turn;
+use fate_io::Sink;
+use morta_task::{Asker, Cut, Entry, Handoff, Image, Interval, Log, Runner};
+use nona_num::gap;
+use nona_store::Store;
+use nona_tree::Outcome;
+use std::alloc::Global;
+
+/// The most intervals that a log has.
+pub const MOST: usize = 1_048_576;
+
+/// How many turns lie between the bounds of an entry's loop.
+fn span(entry: &Entry) -> u64
+    ensures { result ≡ int_gap entry.now.low entry.now.high }
+{
+    gap(entry.low(), entry.high())
+}
+
+/// How the loop of an entry ends whose last turn is done: it may be out of turns then.
+fn whole_end(image: &Image, entry: &Entry) -> Outcome
+    requires entered { IsEntered entry.now }
+    requires region { IsIn entry.now image.now }
+    ensures { (m : Memory) → state_after entry.now (before entry.now (last entry.now)) ≡ done m → Reaches (whole_loop entry.now) m result }
+{
+    if span(entry) <= entry.turns() {
+        Outcome::Done
+    } else {
+        Outcome::OutOfTurns {
+            at: image.region(entry.region()).looped.at,
+        }
+    }
+}
+
+/// How the loop of an entry has ended with an interval, or `None` where the entry goes on.
+fn loop_end(image: &Image, entry: &Entry, interval: &Interval) -> Option<Outcome>
+    requires entered { IsEntered entry.now }
+    requires region { IsIn entry.now image.now }
+    requires done { IsDone entry.now interval.now.ran interval.now.from (limit_of entry.now interval.now.from interval.now.asked.until) interval.now.done }
+    ensures { EndsWith entry.now interval.now result }
+{
+    match interval.done.cut {
+        Cut::Trap(trap) => Some(Outcome::Trap(trap)),
+        Cut::Turns { at } => Some(Outcome::OutOfTurns { at }),
+        _ => {
+            if interval.done.to == entry.last() {
+                Some(whole_end(image, entry))
+            } else {
+                None
+            }
+        }
+    }
+}
+
+/// One interval of an entry, and then the lines of what it printed. The answer has how the entry's loop ended, where it
+/// did.
+fn turn_and_show<M: Runner + Asker, K: Sink>(
+    alloc: Global,
+    image: &Image,
+    start: &Start<M, K>,
+    entry: &Entry,
+    kept: Option<Entry>,
+    handoff: Handoff,
+    morta: &mut M,
+    out: &mut K,
+    log: &mut Log,
+) -> Result<(Handoff, Option<Outcome>), DriveFault>
+    requires serves { ServesAll M.promise start.now.morta.value image.now }
+    requires entry { IsOn image.now start.now.turns start.now.store.value entry.now }
+    requires stands { StandsAt M.promise (entries_of image.now start.now.turns start.now.store.value) start.now.morta.value morta.old entry.now kept log.old handoff }
+    requires put { HasPut (sent_since K.written K.faults start.now.out.value out.old) handoff.store.printed }
+    requires room { length log.old.intervals < most }
+    ensures goes_on { IfOk result (λ r. GoesOnAt M.promise (entries_of image.now start.now.turns start.now.store.value) start.now.morta.value morta.new entry.now log.new r.0 r.1) }
+    ensures put { IfOk result (λ r. HasPut (sent_since K.written K.faults start.now.out.value out.new) r.0.store.printed) }
+    ensures added { OnOk result (length log.new.intervals ≡ length log.old.intervals + 1) }
+    ensures stopped { IfErr result (λ fault. Stopped M.promise image.now start.now.turns start.now.store.value start.now.morta.value log.new (sent_since K.written K.faults start.now.out.value out.new) fault) }
+{
+    let shown = handoff.store.printed().len();
+    let (after, interval) = turn(image, start, entry, kept, handoff, morta, log)?;
+    show(alloc, start, &after.store, shown, out)?;
+    let end = loop_end(image, entry, &interval);
+    Ok((after, end))
+}
+
+/// Runs an entry to the end of its loop, interval by interval. `kept` is the same entry, for the log.
+pub fn run_entry<M: Runner + Asker, K: Sink>(
+    alloc: Global,
+    image: &Image,
+    start: &Start<M, K>,
+    entry: &Entry,
+    kept: Entry,
+    store: Store,
+    morta: &mut M,
+    out: &mut K,
+    log: &mut Log,
+) -> Result<(Store, Outcome), DriveFault>
+    requires serves { ServesAll M.promise start.now.morta.value image.now }
+    requires entry { IsOn image.now start.now.turns start.now.store.value entry.now }
+    requires stands { StandsAt M.promise (entries_of image.now start.now.turns start.now.store.value) start.now.morta.value morta.old entry.now (Some kept) log.old (record { next = entry.now.low; store = store }) }
+    requires put { HasPut (sent_since K.written K.faults start.now.out.value out.old) store.printed }
+    requires few { length log.old.intervals ≤ most }
+    ensures ended { IfOk result (λ r. HasEnded M.promise (entries_of image.now start.now.turns start.now.store.value) start.now.morta.value morta.new entry.now log.new r.0 r.1) }
+    ensures put { IfOk result (λ r. HasPut (sent_since K.written K.faults start.now.out.value out.new) r.0.printed) }
+    ensures few { OnOk result (length log.new.intervals ≤ most) }
+    ensures added { OnOk result (length log.old.intervals < length log.new.intervals) }
+    ensures stopped { IfErr result (λ fault. Stopped M.promise image.now start.now.turns start.now.store.value start.now.morta.value log.new (sent_since K.written K.faults start.now.out.value out.new) fault) }
+{
+    let mut kept = Some(kept);
+    let mut handoff = Handoff {
+        next: entry.low(),
+        store,
+    };
+    'turns: while log.intervals().len() < MOST {
+        let (after, end) = turn_and_show(
+            alloc,
+            image,
+            start,
+            entry,
+            kept.take(),
+            handoff,
+            morta,
+            out,
+            log,
+        )?;
+        if let Some(end) = end {
+            return Ok((after.store, end));
+        }
+        handoff = after;
+    }
+    Err(DriveFault::LogFull)
+}

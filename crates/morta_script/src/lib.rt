@@ -1,0 +1,11 @@
+//! The texts of scripts.
+//!
+//! `specs/` says what the commands of a text are (`Lines`), and what one line adds to those before it (`Turns`).
+#![tactic(auto)]
+
+mod line;
+mod reading;
+#[cfg(test)]
+mod tests;
+
+pub use reading::{ScriptFault, read_script};

@@ -1,0 +1,3 @@
+pub mod InRegions
+pub mod Gathered
+pub mod OfChecked

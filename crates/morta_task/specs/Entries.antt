@@ -1,0 +1,108 @@
+-- The entries of a run, as contracts see them.
+use Rattle.std.specs.Prelude.{◌≡◌, ℕ, ◌+◌, ◌-◌, ◌≤◌, Bool, true, false, ℤ, pos, ◌+ℤ◌, List, [], ◌∷◌, length, nat_lt, slice_get, None, Some, Ok}
+use Rattle.std.specs.declared.option.Option.{Option}
+use Rattle.std.specs.Int.{int_gap}
+use Rattle.nona_tree.specs.declared.plans.Plan.{Plan}
+use Rattle.nona_tree.specs.declared.trees.Loop.{Loop}
+use Rattle.nona_tree.specs.declared.trees.Stmt.{For}
+use Rattle.nona_tree.specs.Memory.{Memory}
+use Rattle.nona_tree.specs.Value.{value_of}
+use Rattle.nona_tree.specs.Run.{Ran}
+use Rattle.nona_tree.specs.Scope.{IsScoped, IsSteady}
+use Rattle.nona_tree.specs.Smallness.{IsSmallLoop}
+use Rattle.nona_tree.specs.Entries.{Opened, Entry, after, entries_all, last_of}
+use Rattle.morta_task.specs.declared.regions.RegionCode.{RegionCode}
+use Rattle.morta_task.specs.declared.schemes.Scheme.{Scheme}
+use Rattle.morta_task.specs.declared.schemes.Scheme.TheVariants.{Seq, Any, Pipe}
+use Rattle.morta_task.specs.ImageView.{ImageView}
+
+-- An entry: its number in the run and that of its region, both from 1; the loop and the plan of the region; the values of
+-- the loop's bounds; the turn bound of the run; whether the entry offers `any` and `pipe`; and the store at that moment.
+pub record EntryView : Type 0 where
+  pub number : ℕ
+  pub region : ℕ
+  pub looped : Loop
+  pub plan : Plan
+  pub low : ℤ
+  pub high : ℤ
+  pub turns : ℕ
+  pub any : Bool
+  pub pipe : Bool
+  pub store : Memory
+
+-- whether a plan has stages
+abbrev pub has_stages : Plan → Bool
+has_stages plan = nat_lt 0 (length plan.pipe)
+
+-- the entry to a region of this code: it offers the versions that the plan has
+abbrev pub entered : ℕ → ℕ → RegionCode → ℤ → ℤ → ℕ → Memory → EntryView
+entered number region code low high n m = record {
+  number = number;
+  region = region;
+  looped = code.looped;
+  plan = code.plan;
+  low = low;
+  high = high;
+  turns = n;
+  any = code.plan.any;
+  pipe = has_stages code.plan;
+  store = m;
+}
+
+-- whether an entry offers a scheme
+abbrev pub offers : EntryView → Scheme → Bool
+offers e Seq = true
+offers e Any = e.any
+offers e Pipe = e.pipe
+
+-- the number behind the last index of an entry: its low where it has no turn, and never more turns than it may take
+abbrev pub last : EntryView → ℤ
+last e = last_of e.low e.high e.turns
+
+-- the entry as a loop that was entered
+abbrev pub loop_of : EntryView → Entry
+loop_of e = record { looped = e.looped; store = e.store; low = e.low; turns = e.turns }
+
+-- the state after the first k iterations of an entry, in one thread
+abbrev pub state_after : EntryView → ℕ → Ran
+state_after e k = after (loop_of e) k
+
+-- how many iterations of an entry come before this index
+abbrev pub before : EntryView → ℤ → ℕ
+before e index = int_gap e.low index
+
+-- an index of an entry, or the number behind its last one
+abbrev pub IsWithin : EntryView → ℤ → Type 0
+IsWithin e index = (index ≡ e.low +ℤ pos (before e index)) × (before e index ≤ before e (last e))
+
+-- what stands of each entry of a checked program: the bounds have these values in its store, which has the scalars and the
+-- arrays that the loop names, no index in it is assigned, and it is small
+pub record IsEntered (e : EntryView) : Type 0 where
+  pub low_is : value_of e.looped.low e.store ≡ Ok e.low
+  pub high_is : value_of e.looped.high e.store ≡ Ok e.high
+  pub scoped : IsScoped (For e.looped) (length e.store.scalars) (length e.store.arrays)
+  pub steady : IsSteady (For e.looped) []
+  pub small : IsSmallLoop e.looped
+
+-- a plan of the version `seq` alone
+abbrev pub seq_plan : Plan
+seq_plan = record { any = false; pipe = []; crossing = [] }
+
+-- the plan of a region, where it is there
+abbrev pub plan_of : Option RegionCode → Plan
+plan_of None = seq_plan
+plan_of (Some code) = code.plan
+
+-- a region that the run comes to, with this number in order
+abbrev pub numbered : List RegionCode → ℕ → ℕ → Opened → EntryView
+numbered regions n number o =
+    entered number o.region (record { looped = o.looped; plan = plan_of (slice_get regions (o.region - 1)) }) o.low o.high n o.store
+
+-- regions that a run comes to, numbered from this one on
+abbrev pub numbered_from : List RegionCode → ℕ → ℕ → List Opened → List EntryView
+numbered_from regions n number [] = []
+numbered_from regions n number (o ∷ rest) = numbered regions n number o ∷ numbered_from regions n (number + 1) rest
+
+-- all entries of the run of an image from a store, where each loop may take n turns whenever it is entered
+abbrev pub entries_of : ImageView → ℕ → Memory → List EntryView
+entries_of image n m = numbered_from image.regions n 1 (entries_all 1 image.main n m)

@@ -1,0 +1,9 @@
+pub mod Entries
+pub mod ImageView
+pub mod ImageInside
+pub mod EntryInside
+pub mod LogView
+pub mod Running
+pub mod Promise
+pub mod Legal
+pub mod InSequence

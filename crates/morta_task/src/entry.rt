@@ -1,0 +1,140 @@
+ghost use Rattle.std.specs.Prelude.{◌≡◌, ◌≤◌, ◌^◌};
+ghost use Rattle.nona_tree.specs.Entries.{last_of};
+ghost use Rattle.morta_task.specs.Entries.{entered, offers, last, has_stages};
+
+use crate::regions::RegionCode;
+use crate::schemes::Scheme;
+use nona_num::{gap, offset};
+use nona_store::Store;
+use nona_tree::{Loop, Plan};
+use std::marker::Model;
+use std::snapshot::Snapshot;
+
+/// A coming of the run to a region. For contracts alone it names the loop and the plan of the region and the store of that
+/// moment.
+#[derive(Drop)]
+pub struct Entry {
+    number: u32,
+    region: u32,
+    low: i64,
+    high: i64,
+    last: i64,
+    turns: u64,
+    any: bool,
+    pipe: bool,
+    looped: Snapshot<Loop>,
+    plan: Snapshot<Plan>,
+    store: Snapshot<Store>,
+}
+
+impl Model for Entry {
+    ghost use Rattle.std.specs.Coded.{codes};
+    ghost use Rattle.nona_tree.specs.contracts.trees.Expr as expr;
+    ghost use Rattle.nona_tree.specs.contracts.trees.Stmt as stmt;
+    ghost use Rattle.morta_task.specs.Entries.{EntryView};
+    ghost use Rattle.morta_task.specs.EntryInside.{view_of, IsEntry};
+
+    ghost Value = { EntryView };
+
+    ghost coded = { Prim.hlevel (codes, expr.the_row.coded, stmt.the_row.coded) };
+
+    ghost view = { view_of };
+
+    ghost invariant = { IsEntry };
+}
+
+/// The number behind the last index of a loop from `low` to `high` that may take `turns` turns.
+fn last_index(low: i64, high: i64, turns: u64) -> i64
+    ensures { result ≡ last_of low high turns }
+{
+    offset(low, gap(low, high).min(turns))
+}
+
+impl Entry {
+    /// The entry with this number, from 1 in order of the run, to the region with this number, from 1 in text order, whose
+    /// bounds have the values `low` and `high` in the store. A loop may take `turns` turns, from 1 to 10^12, whenever it is
+    /// entered. Takes constant time: nothing of the loop, the plan or the store is copied.
+    pub fn begin(
+        number: u32,
+        region: u32,
+        code: &RegionCode,
+        low: i64,
+        high: i64,
+        turns: u64,
+        store: &Store,
+    ) -> Entry
+        requires some_turns { 1 ≤ turns }
+        requires few_turns { turns ≤ 10 ^ 12 }
+        ensures { result ≡ entered number region code.now low high turns store.now }
+    {
+        Entry {
+            number,
+            region,
+            low,
+            high,
+            last: last_index(low, high, turns),
+            turns,
+            any: code.plan.any,
+            pipe: !code.plan.pipe.is_empty(),
+            looped: Snapshot::of(&code.looped),
+            plan: Snapshot::of(&code.plan),
+            store: Snapshot::of(store),
+        }
+    }
+
+    /// Its number in the run, from 1.
+    pub fn number(&self) -> u32
+        ensures { result ≡ self.now.number }
+    {
+        self.number
+    }
+
+    /// The number of its region, from 1.
+    pub fn region(&self) -> u32
+        ensures { result ≡ self.now.region }
+    {
+        self.region
+    }
+
+    /// The value of the loop's low bound: the first index.
+    pub fn low(&self) -> i64
+        ensures { result ≡ self.now.low }
+    {
+        self.low
+    }
+
+    /// The value of the loop's high bound.
+    pub fn high(&self) -> i64
+        ensures { result ≡ self.now.high }
+    {
+        self.high
+    }
+
+    /// The number behind the last index: `low` where the loop has no turn, and else `low` and as many as it has turns, of
+    /// which it takes no more than it may.
+    pub fn last(&self) -> i64
+        ensures { result ≡ last self.now }
+    {
+        self.last
+    }
+
+    /// How many turns a loop may take whenever it is entered: from 1 to 10^12.
+    pub fn turns(&self) -> u64
+        ensures turns { result ≡ self.now.turns }
+        ensures some { 1 ≤ result }
+        ensures few { result ≤ 10 ^ 12 }
+    {
+        self.turns
+    }
+
+    /// Whether it offers a version of the loop. Each entry offers `Seq`.
+    pub fn offers(&self, scheme: Scheme) -> bool
+        ensures { result ≡ offers self.now scheme }
+    {
+        match scheme {
+            Scheme::Seq => true,
+            Scheme::Any => self.any,
+            Scheme::Pipe => self.pipe,
+        }
+    }
+}

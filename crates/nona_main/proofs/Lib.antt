@@ -1,0 +1,7 @@
+pub mod MarkLaws
+pub mod PlaceLaws
+pub mod Courses
+pub mod NoRegions
+pub mod Readiness
+pub mod CostLaws
+pub mod Handed

@@ -1,0 +1,11 @@
+use Rattle.std.proofs.Common.{ap, reverse}
+use Rattle.nona_main.specs.Course.{joined}
+use Rattle.nona_main.specs.Tasks.{course_by}
+use Rattle.nona_main.proofs.Courses.{course_while}
+use Rattle.nona_main.proofs.steps.enter_while.Goals as goal
+
+pub returns-clause-steps : goal.returns-clause-steps
+returns-clause-steps c =
+    let body = c.args.body in
+    let later = course_by (reverse c.args.tasks.now.items) c.args.turns in
+    λ m. rw c.in_ok-push.ensures (ap (λ x. joined x later) (course_while body.place.first c.args.test.now body.statements.now c.args.at c.args.turns m))

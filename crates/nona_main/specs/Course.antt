@@ -1,0 +1,28 @@
+-- How a run ends, and the regions that it comes to on the way.
+use Rattle.std.specs.Prelude.{ℕ, List, [], ◌∷◌, ◌++◌}
+use Rattle.nona_tree.specs.declared.outcomes.Outcome.{Outcome}
+use Rattle.nona_tree.specs.declared.trees.Stmt.{Stmt}
+use Rattle.nona_tree.specs.Memory.{Memory}
+use Rattle.nona_tree.specs.Run.{Ran, run_all}
+use Rattle.nona_tree.specs.Entries.{Opened, entries_all}
+
+-- the end of a run, and each region that it comes to, in order
+pub record Course : Type 0 where
+  pub ran : Ran
+  pub entries : List Opened
+
+-- a run that has come to its end
+abbrev pub ended : Memory → Outcome → Course
+ended m end = record { ran = record { store = m; end = end }; entries = [] }
+
+-- one course, and then the one that goes on from its end
+abbrev pub joined : Course → (Ran → Course) → Course
+joined first later = record { ran = (later first.ran).ran; entries = first.entries ++ (later first.ran).entries }
+
+-- an entry, and then the course that follows
+abbrev pub opens : Opened → Course → Course
+opens entry rest = record { ran = rest.ran; entries = entry ∷ rest.entries }
+
+-- the course of one statement after another, where the first region in their text has this number
+abbrev pub course_of : ℕ → List Stmt → ℕ → Memory → Course
+course_of first ss n m = record { ran = run_all ss n m; entries = entries_all first ss n m }

@@ -1,0 +1,48 @@
+ghost use Rattle.std.specs.Prelude.{◌≡◌, ℕ, length, IfOk, OnOk};
+ghost use Rattle.nona_tree.specs.Memory.{Memory, Extends};
+ghost use Rattle.nona_tree.specs.Run.{Ran, done};
+ghost use Rattle.nona_main.specs.Course.{Course};
+ghost use Rattle.nona_main.specs.Frame.{Stops, StaysReady, Leaves, OnlyPrints};
+
+use nona_store::Store;
+use nona_tree::Outcome;
+use std::alloc::AllocError;
+
+/// Where the main statements of a program have come to.
+#[derive(Clone, Copy, Debug, PartialEq, Eq)]
+pub enum Stop {
+    /// The region with this number, counted from 1 in text order, whose bounds have these values. None of its turns was
+    /// taken.
+    Region { number: u32, low: i64, high: i64 },
+    /// The end of the program, with its outcome.
+    Ended(Outcome),
+}
+
+/// What runs the main statements of a program from one region to the next, whatever it reads them from.
+///
+/// `left` says what is still to come: with a turn bound, and once the region at hand has ended so and left this store,
+/// how the whole run ends and the regions that it comes to. `ready` says for which turn bound, and over a store with how
+/// many scalars and arrays, the frame can go on.
+pub trait MainFrame {
+    ghost left: { Self → ℕ → Ran → Course → Type 0 };
+
+    ghost ready: { Self → ℕ → ℕ → ℕ → Type 0 };
+
+    /// Goes on from where it last stopped, as the sequential meaning does, to the next region or to the end; each loop may
+    /// take `turns` turns whenever it is entered. The whole loop of the region at hand has run before, and is done. An
+    /// error comes where memory runs out, and the frame and the store are then spent.
+    fn next(&mut self, turns: u64, store: &mut Store) -> Result<Stop, AllocError>
+        requires ready { Self.ready self.old turns (length store.old.scalars) (length store.old.arrays) }
+        ensures stops { IfOk result (λ stop. (course : Course) → Self.left self.old turns (done store.old) course → Stops (Self.left self.new turns) course turns stop store.new) }
+        ensures ready { IfOk result (λ stop. StaysReady (Self.ready self.new turns) stop store.new) }
+        ensures prints { OnOk result (Extends store.old.printed store.new.printed) };
+
+    /// Leaves the blocks around the region at hand, which ended otherwise than done: the scalars that were declared in
+    /// them go. The run is then at its end.
+    fn leave(&mut self, store: &mut Store)
+        requires fits { (turns : ℕ) × Self.ready self.old turns (length store.old.scalars) (length store.old.arrays) }
+        ensures leaves { Leaves (Self.left self.old) store.old store.new }
+        ensures printed { store.new.printed ≡ store.old.printed };
+
+    ghost only_prints: { OnlyPrints Self.left };
+}

@@ -1,0 +1,11 @@
+use Rattle.std.proofs.Common.{[], ◌∷◌}
+use Rattle.nona_lex.specs.declared.tokens.Sign.TheVariants as sign
+use Rattle.nona_grammar.specs.Machine.{ArrayName, CellsOpen, Want}
+use Rattle.nona_parse.proofs.Build.{fails_in}
+use Rattle.nona_parse.proofs.declarations.array.Goals as goal
+
+pub returns-in-Err-clause-read : goal.returns-in-Err-clause-read
+returns-in-Err-clause-read c =
+    let name = c.in_ok-name.name in
+    fails_in c.in-Err.fault (ArrayName ∷ []) (CellsOpen name.text name.at ∷ Want sign.CloseIndex ∷ Want sign.Semicolon ∷ []) c.args.spots.now c.in_ok-name.rest.now
+    (λ end k v. (k, v, c.in_ok-name.ensures.array end k v)) (c.in-Err.ensures.read name.text name.at)

@@ -1,0 +1,15 @@
+//! Plain texts that users write beside programs: their lines, the pieces between blanks, and numbers.
+//!
+//! `specs/` says what they are: `Pieces` where pieces and lines begin and end, `Digits` which bytes are numbers, and
+//! `Fronts` what the first of them leaves behind.
+#![tactic(auto)]
+
+mod digits;
+mod lines;
+mod pieces;
+#[cfg(test)]
+mod tests;
+
+pub use digits::{number_within, signed_number};
+pub use lines::{FirstLine, first_line, without_cr};
+pub use pieces::{FirstPiece, first_token, first_word};

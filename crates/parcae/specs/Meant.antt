@@ -1,0 +1,21 @@
+-- A command that was read, as contracts see it.
+use Rattle.std.specs.Prelude.{◌≤◌}
+use Rattle.std.specs.Option.{option_copied}
+use Rattle.parcae.specs.declared.words.Run.{Run}
+use Rattle.parcae.specs.declared.words.Command.{Command as Read}
+use Rattle.parcae.specs.declared.words.Command.TheVariants.{Seq, Replay}
+use Rattle.parcae.specs.Words.{Task, Command, seq, replay, turn_limit}
+
+-- what a run takes
+abbrev pub task_of : Run → Task
+task_of r = record { file = r.file.now; input = option_copied r.input; turns = r.turns; memory = r.memory }
+
+-- a command
+abbrev pub command_of : Read → Command
+command_of (Seq r) = seq (task_of r)
+command_of (Replay r script log) = replay (task_of r) script.now log
+
+-- the turns of a loop are from 1 to 10^12
+abbrev pub HasTurns : Read → Type 0
+HasTurns (Seq r) = (1 ≤ r.turns) × (r.turns ≤ turn_limit)
+HasTurns (Replay r script log) = (1 ≤ r.turns) × (r.turns ≤ turn_limit)

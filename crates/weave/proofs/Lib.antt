@@ -1,0 +1,9 @@
+pub mod SeqLaws
+pub mod Sound
+pub mod RunsOut
+pub mod Ends
+pub mod Few
+pub mod Steps
+pub mod Exact
+pub mod Intervals
+pub mod Asks

@@ -1,0 +1,12 @@
+pub mod Machines
+pub mod Following
+pub mod SeqNet
+pub mod Replay
+pub mod SeqState
+pub mod Obeys
+pub mod Asking
+pub mod Net
+pub mod WeaveView
+pub mod WeaveInside
+pub mod WeavePromise
+pub mod ReplayLaws

@@ -1,0 +1,16 @@
+//! The replay of a script: the machine of an interval, whose tasks step in the order that the script gives, and which asks
+//! for the intervals that the script names.
+#![tactic(auto)]
+
+mod following;
+mod laws;
+mod net;
+mod script;
+mod weaving;
+
+pub use laws::seq_moves;
+pub use script::{Command, Script};
+pub use weaving::Weave;
+
+#[cfg(test)]
+mod tests;

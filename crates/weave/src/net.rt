@@ -1,0 +1,255 @@
+//! The machine of an interval under `seq`.
+
+ghost use Rattle.std.specs.Prelude.{◌≡◌, ◌≤◌, drop, false, OnOk};
+ghost use Rattle.std.specs.Int.{int_gap};
+ghost use Rattle.nona_tree.specs.Memory.{cut_to};
+ghost use Rattle.morta_task.specs.Entries.{IsEntered, before, last};
+ghost use Rattle.morta_task.specs.Running.{IsHandoff};
+ghost use Rattle.weave.specs.Machines.{RunsOut, step_times as stepped_times};
+ghost use Rattle.weave.specs.SeqNet.{seq_machine, begun_net, claimed, step_at, moved, is_finished as has_finished, ran_of, cut_of as cut_by};
+ghost use Rattle.weave.specs.declared.net.Place.TheVariants as place;
+ghost use Rattle.weave.specs.Net.{place_before, store_before, stand_of, IsPlace, net_of, IsSet, IsNet};
+
+use morta_task::{Cut, Entry, Handoff, Ran, Work};
+use nona_num::offset;
+use nona_store::Store;
+use nona_tree::{Loop, Outcome, Stmt};
+use nona_walk::walk;
+use std::alloc::AllocError;
+
+/// Where the task stands.
+#[derive(Clone, Copy)]
+pub enum Place {
+    /// Before a claim.
+    Claims,
+    /// Before the unit of its iteration that has this number, from 0.
+    Unit(usize),
+    /// It has finished.
+    Finished,
+}
+
+/// The one task of an interval: it claims an iteration, does its units in text order, and claims again. A claim is refused
+/// behind the limit or the pause, and that finishes the task; so does a unit that ends otherwise than done.
+#[derive(Drop)]
+pub struct Net<'a> {
+    entry: &'a Entry,
+    units: &'a [Stmt],
+    /// How many scalars there are around an iteration.
+    depth: usize,
+    /// The index of the first iteration.
+    from: i64,
+    /// How many iterations may be granted.
+    limit: u64,
+    granted: u64,
+    paused: bool,
+    place: Place,
+    store: Store,
+    /// How the last iteration ended.
+    end: Outcome,
+    /// How often the task moved.
+    moves: u64,
+}
+
+/// Cuts off the scalars behind the first `depth`.
+fn cut(depth: usize, store: &mut Store)
+    ensures { store.new ≡ cut_to depth store.old }
+{
+    let behind = store.depth().saturating_sub(depth);
+    store.cut_scalars(behind);
+}
+
+/// The place before the unit with this number. Behind the last one it is that before a claim, and the scalars behind the
+/// first `depth` go.
+fn arrive(units: &[Stmt], at: usize, depth: usize, store: &mut Store) -> Place
+    ensures place { stand_of units.now result ≡ place_before (drop at units.now) }
+    ensures store { store.new ≡ store_before depth (drop at units.now) store.old }
+    ensures number { IsPlace units.now result }
+{
+    if at < units.len() {
+        Place::Unit(at)
+    } else {
+        cut(depth, store);
+        Place::Claims
+    }
+}
+
+/// Why an interval ended with this end, where so many iterations were granted.
+fn cut_of(end: Outcome, granted: u64, limit: u64) -> Cut
+    ensures { result ≡ cut_by end granted limit }
+{
+    match end {
+        Outcome::Done => {
+            if granted < limit {
+                Cut::Paused
+            } else {
+                Cut::Limit
+            }
+        }
+        Outcome::Trap(trap) => Cut::Trap(trap),
+        Outcome::OutOfTurns { at } => Cut::Turns { at },
+    }
+}
+
+impl<'a> Net<'a> {
+    /// The machine of an interval of an entry to this loop: it begins where the handoff stands, and grants up to `limit`
+    /// iterations. Nothing is copied.
+    pub fn begin(entry: &'a Entry, looped: &'a Loop, handoff: Handoff, limit: u64) -> Net<'a>
+        requires entered { IsEntered entry.now }
+        requires looped { looped.now ≡ entry.now.looped }
+        requires state { IsHandoff entry.now handoff }
+        requires room { limit ≤ int_gap handoff.next (last entry.now) }
+        ensures net { net_of result ≡ begun_net entry.now (before entry.now handoff.next) limit handoff.store }
+        ensures sound { IsNet result }
+    {
+        let Handoff { next, store } = handoff;
+        let _last = entry.last();
+        let _turns = entry.turns();
+        Net {
+            entry,
+            units: looped.body.as_slice(),
+            depth: store.depth(),
+            from: next,
+            limit,
+            granted: 0,
+            paused: false,
+            place: Place::Claims,
+            store,
+            end: Outcome::Done,
+            moves: 0,
+        }
+    }
+
+    /// Whether the task has finished.
+    pub fn is_finished(&self) -> bool
+        ensures { result ≡ has_finished (net_of self.now).place }
+    {
+        match self.place {
+            Place::Finished => true,
+            _ => false,
+        }
+    }
+
+    /// Sets the pause mark: no claim is granted any more.
+    pub fn pause(&mut self)
+        requires { IsNet self.old }
+        ensures net { net_of self.new ≡ seq_machine.pause (net_of self.old) }
+        ensures sound { IsNet self.new }
+    {
+        self.paused = true;
+    }
+
+    /// Claims the next iteration, whose index is then declared, or is refused and finishes.
+    fn claim(&mut self) -> Result<(), AllocError>
+        requires set { IsSet self.old }
+        ensures net { OnOk result (net_of self.new ≡ claimed (net_of self.old)) }
+        ensures set { OnOk result (IsSet self.new) }
+    {
+        if self.paused || self.granted >= self.limit {
+            self.place = Place::Finished;
+            return Ok(());
+        }
+        let index = offset(self.from, self.granted);
+        self.store.push_scalar(index)?;
+        self.granted += 1;
+        self.place = arrive(self.units, 0, self.depth, &mut self.store);
+        Ok(())
+    }
+
+    /// Does the unit of the iteration that has this number. One that ends otherwise than done finishes the task.
+    fn do_unit(&mut self, at: usize) -> Result<(), AllocError>
+        requires net { IsNet self.old }
+        requires place { self.old.place ≡ place.Unit at }
+        ensures net { OnOk result (net_of self.new ≡ step_at (net_of self.old).place (net_of self.old)) }
+        ensures set { OnOk result (IsSet self.new) }
+    {
+        let turns = self.entry.turns();
+        match walk(&self.units[at], turns, &mut self.store)? {
+            Outcome::Done => {
+                self.place = arrive(self.units, at + 1, self.depth, &mut self.store);
+            }
+            end => {
+                cut(self.depth, &mut self.store);
+                self.end = end;
+                self.place = Place::Finished;
+            }
+        }
+        Ok(())
+    }
+
+    /// Does what comes next: a claim, or a unit, or nothing where the task has finished.
+    fn act(&mut self) -> Result<(), AllocError>
+        requires { IsNet self.old }
+        ensures net { OnOk result (net_of self.new ≡ step_at (net_of self.old).place (net_of self.old)) }
+        ensures set { OnOk result (IsSet self.new) }
+    {
+        match self.place {
+            Place::Claims => self.claim(),
+            Place::Unit(at) => self.do_unit(at),
+            Place::Finished => Ok(()),
+        }
+    }
+
+    /// Does one step: a claim, or one unit. It takes constant time beside the unit, and no memory that the unit doesn't
+    /// take. An error comes where memory runs out, and the machine is then spent.
+    pub fn step(&mut self) -> Result<(), AllocError>
+        requires net { IsNet self.old }
+        requires goes_on { has_finished (net_of self.old).place ≡ false }
+        ensures net { OnOk result (net_of self.new ≡ moved (net_of self.old)) }
+        ensures sound { OnOk result (IsNet self.new) }
+    {
+        self.act()?;
+        self.moves += 1;
+        Ok(())
+    }
+
+    /// Steps so often, or until the task has finished.
+    pub fn step_times(&mut self, moves: u64) -> Result<(), AllocError>
+        requires { IsNet self.old }
+        ensures net { OnOk result (net_of self.new ≡ stepped_times seq_machine moves 0 (net_of self.old)) }
+        ensures sound { OnOk result (IsNet self.new) }
+    {
+        'steps: for _taken in 0..moves {
+            if self.is_finished() {
+                break;
+            }
+            self.step()?;
+        }
+        Ok(())
+    }
+
+    /// Steps until the task has finished.
+    pub fn run_out(&mut self) -> Result<(), AllocError>
+        requires { IsNet self.old }
+        ensures net { OnOk result (RunsOut seq_machine (net_of self.old) (net_of self.new)) }
+        ensures sound { OnOk result (IsNet self.new) }
+    {
+        'steps: while !self.is_finished() {
+            self.step()?;
+        }
+        Ok(())
+    }
+
+    /// What the interval did, and the live state that it hands on. The store is moved.
+    pub fn finish(self) -> (Handoff, Ran)
+        requires { IsNet self }
+        ensures ran { result.1 ≡ ran_of (net_of self.entry) }
+        ensures next { result.0.next ≡ result.1.to }
+        ensures store { result.0.store ≡ (net_of self.entry).store }
+    {
+        let to = offset(self.from, self.granted);
+        let ran = Ran {
+            to,
+            work: Some(Work {
+                steps: self.moves,
+                waits: 0,
+            }),
+            ticks: self.moves,
+            cut: cut_of(self.end, self.granted, self.limit),
+        };
+        let handoff = Handoff {
+            next: to,
+            store: self.store,
+        };
+        (handoff, ran)
+    }
+}
