@@ -421,10 +421,9 @@ fn heads_declare_once(rt: HostRuntime) -> Result<(), Fail> {
 }
 
 #[test]
-fn kinds_and_targets(rt: HostRuntime) -> Result<(), Fail> {
+fn kinds_of_names(rt: HostRuntime) -> Result<(), Fail> {
     let alloc = rt.alloc();
     let x = (b'x', 40);
-    let y = (b'y', 41);
     let cases = [
         (
             Shape::One(Line::Print(Value::Len((b'x', 20)))),
@@ -442,6 +441,19 @@ fn kinds_and_targets(rt: HostRuntime) -> Result<(), Fail> {
         (Shape::One(set((b'A', 24), x)), kind_wrong(24)),
         (Shape::One(print((b'?', 25))), kind_wrong(25)),
         (Shape::One(Line::Print(Value::Len((b'?', 26)))), None),
+    ];
+    for (shape, want) in cases {
+        assert_eq!(rt; body_fault(alloc, [shape].as_slice())?, want);
+    }
+    Ok(())
+}
+
+#[test]
+fn targets_may_be_written(rt: HostRuntime) -> Result<(), Fail> {
+    let alloc = rt.alloc();
+    let x = (b'x', 40);
+    let y = (b'y', 41);
+    let cases = [
         (Shape::For((b'i', 20), set((b'i', 27), x)), assigned(27)),
         (
             Shape::Nest((b'i', 20), (b'j', 21), set((b'i', 28), x)),

@@ -13,21 +13,21 @@ use sqlite_items::Items;
 use std::alloc::Global;
 
 /// What a declaration is of.
-#[derive(Clone, Copy, Debug)]
+#[derive(Clone, Copy)]
 pub enum Kind {
     Array,
     Var,
 }
 
 /// A declaration.
-#[derive(Debug, Drop)]
+#[derive(Drop)]
 pub enum Decl {
     Array(ArrayDecl),
     Var(VarDecl),
 }
 
 /// The arrays and the variables that were declared so far, each in text order.
-#[derive(Debug, Drop)]
+#[derive(Drop)]
 pub struct Declared {
     pub arrays: Items<ArrayDecl>,
     pub vars: Items<VarDecl>,

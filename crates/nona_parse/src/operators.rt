@@ -94,7 +94,7 @@ pub fn binary(alloc: Global, op: Op, at: u32, left: Expr, right: Expr) -> Result
 }
 
 /// What may stand before a primary.
-#[derive(Clone, Copy, Debug)]
+#[derive(Clone, Copy)]
 pub enum Prefix {
     Minus,
     Not,
