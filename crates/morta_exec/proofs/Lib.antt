@@ -11,3 +11,4 @@ pub mod Onward
 pub mod Printing
 pub mod Starting
 pub mod Driven
+pub mod Samples

@@ -12,3 +12,6 @@ mod turn;
 pub use driving::{Ended, drive};
 pub use fault::DriveFault;
 pub use lines::put_numbers;
+
+#[cfg(test)]
+mod tests;
