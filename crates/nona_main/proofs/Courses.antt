@@ -1,10 +1,9 @@
 -- The courses of statements and of loops, one step on.
-use Rattle.std.proofs.Common.{◌≡◌, ◌≢◌, ◌<◌, ◌≤◌, ◌+◌, ◌-◌, ℕ, zero, suc, ℤ, pos, negsuc, ◌+ℤ◌, ◌<ℤ◌, Bool, true, false, List, [], ◌∷◌, ◌++◌, length, refl, sym, ap, subst, ◌∙◌, arith, if◌then◌else◌, append_assoc, FitsSigned}
+use Rattle.std.proofs.Common.{◌≡◌, ◌<◌, ◌≤◌, ◌+◌, ◌-◌, ℕ, zero, suc, ℤ, pos, negsuc, ◌+ℤ◌, ◌<ℤ◌, Bool, true, false, List, [], ◌∷◌, ◌++◌, length, refl, sym, ap, ◌∙◌, arith, if◌then◌else◌, append_assoc, FitsSigned}
 use Rattle.std.proofs.lemmas.Int.{ints, clamps}
 use Rattle.std.proofs.lemmas.Bool.{le-leb}
 use Rattle.std.specs.Int.{int_gap, w64}
-use Rattle.std.specs.Prelude.{min, nat_le, Ok, Err}
-use Rattle.nona_tree.specs.declared.outcomes.Trap.{Trap}
+use Rattle.std.specs.Prelude.{min, nat_le, Ok}
 use Rattle.nona_tree.specs.declared.outcomes.Outcome.{Outcome}
 use Rattle.nona_tree.specs.declared.outcomes.Outcome.TheVariants as outcome
 use Rattle.nona_tree.specs.declared.trees.Expr.{Expr}
@@ -12,16 +11,16 @@ use Rattle.nona_tree.specs.declared.trees.Loop.{Loop}
 use Rattle.nona_tree.specs.declared.trees.Stmt.{Stmt, If, While, For}
 use Rattle.nona_tree.specs.Memory.{Memory, cut_to, declare}
 use Rattle.nona_tree.specs.Value.{value_of, is_zero}
-use Rattle.nona_tree.specs.Run.{Ran, done, starved, trapped, with_value, then_from, then_do, block, turn, while_turns, first_turns, for_turns, run, run_all}
-use Rattle.nona_tree.specs.Beside.{on_ok, on_end, on_done, while_gives, first_give}
+use Rattle.nona_tree.specs.Run.{Ran, done, starved, with_value, then_from, then_do, block, turn, first_turns, for_turns, run, run_all}
+use Rattle.nona_tree.specs.Beside.{on_ok, on_end, on_done, first_give}
 use Rattle.nona_tree.specs.Entries.{Opened, is_region, count_in, count_all, entries, entries_all}
-use Rattle.nona_tree.proofs.Equations.{run-If, run-While, run-For}
+use Rattle.nona_tree.proofs.Equations.{run-If, run-While}
 use Rattle.nona_tree.proofs.BesideEquations.{entries-If, entries-While, entries-For}
 use Rattle.nona_tree.proofs.Turns.{for_between}
 use Rattle.nona_tree.proofs.FromFirst.{turns_from_first_on, gives_from_first_on}
-use Rattle.nona_main.specs.Course.{Course, ended, joined, opens, course_of}
+use Rattle.nona_main.specs.Course.{Course, ended, joined, course_of}
 use Rattle.nona_main.specs.Frame.{opened}
-use Rattle.nona_main.specs.Tasks.{course_from, course_after, course_in, course_of_while, course_of_turns}
+use Rattle.nona_main.specs.Tasks.{course_after, course_in, course_of_while, course_of_turns}
 
 abbrev course : Ran → List Opened → Course
 course r es = record { ran = r; entries = es }

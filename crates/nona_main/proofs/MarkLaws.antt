@@ -1,5 +1,5 @@
 -- The marks of statements that hold others, by the fields of these, and how marks are set.
-use Rattle.std.proofs.Common.{◌≡◌, ◌+◌, ◌-◌, ℕ, Bool, true, false, List, [], ◌∷◌, ◌++◌, length, refl, sym, ap, ◌∙◌, arith, if◌then◌else◌, append_assoc, length-append}
+use Rattle.std.proofs.Common.{◌≡◌, ◌+◌, ◌-◌, ℕ, true, false, List, [], ◌∷◌, ◌++◌, length, refl, sym, ap, ◌∙◌, arith, if◌then◌else◌, append_assoc, length-append}
 use Rattle.std.proofs.lemmas.List.{set_at}
 use Rattle.std.specs.Prelude.{slice_set}
 use Rattle.nona_tree.specs.declared.trees.Expr.{Expr}
@@ -9,7 +9,7 @@ use Rattle.nona_tree.specs.declared.trees.Stmt.TheBlock.{hidden-the_row-Stmt-0}
 use Rattle.nona_tree.specs.Entries.{is_region, loop_with, regions_in, regions_all, count_in, count_all}
 use Rattle.nona_tree.proofs.BesideEquations.{regions_body, regions-If, regions-While, regions-For}
 use Rattle.nona_main.specs.declared.marks.Mark.{Mark}
-use Rattle.nona_main.specs.Marks.{headed, marks_inside, marks_row, marks_in, marks_all}
+use Rattle.nona_main.specs.Marks.{headed, marks_inside, marks_row, marks_all}
 
 marks_row_at : (k : _) (row : Row_of-Stmt k) → marks_row row ≡ marks_all (items-the_row-Stmt k row)
 marks_row_at k end_of-Stmt = refl

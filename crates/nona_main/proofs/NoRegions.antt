@@ -10,7 +10,7 @@ use Rattle.nona_tree.specs.declared.trees.Stmt.{Stmt, Let, Set, Fold, Put, FoldP
 use Rattle.nona_tree.specs.Memory.{Memory, Extends, declare}
 use Rattle.nona_tree.specs.Value.{Answer, is_zero, value_of}
 use Rattle.nona_tree.specs.Run.{Ran, run, run_row, block, turn, first_turns}
-use Rattle.nona_tree.specs.Beside.{on_ok, on_end, on_done, while_gives, first_give}
+use Rattle.nona_tree.specs.Beside.{on_ok, on_end, while_gives, first_give}
 use Rattle.nona_tree.specs.Entries.{Opened, is_region, loop_with, regions_in, regions_row, count_in, count_row, entries, entries_row}
 use Rattle.nona_tree.proofs.Keeps.{MorePrinted, printed_kept, run_kept}
 use Rattle.nona_main.specs.declared.steps.Task.{Task}

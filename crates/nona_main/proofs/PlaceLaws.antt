@@ -1,5 +1,5 @@
 -- Where the marks of what is come to stand.
-use Rattle.std.proofs.Common.{◌≡◌, ◌<◌, ◌≤◌, ◌+◌, ◌-◌, ◌^◌, ℕ, suc, false, List, [], ◌∷◌, ◌++◌, length, drop, get_or, refl, sym, ap, subst, subst₂, ◌∙◌, arith, append_assoc, length-append, length-drop}
+use Rattle.std.proofs.Common.{◌≡◌, ◌<◌, ◌≤◌, ◌+◌, ◌-◌, ◌^◌, ℕ, false, List, [], ◌∷◌, ◌++◌, length, drop, get_or, refl, sym, ap, subst, subst₂, ◌∙◌, arith, append_assoc, length-append, length-drop}
 use Rattle.std.proofs.lemmas.List.{get_or-drop, drop-drop, drop_at}
 use Rattle.nona_main.specs.declared.marks.Mark.{Mark}
 use Rattle.nona_main.specs.declared.marks.Place.{Place}

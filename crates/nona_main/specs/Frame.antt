@@ -6,7 +6,7 @@ use Rattle.nona_tree.specs.declared.trees.Loop.{Loop}
 use Rattle.nona_tree.specs.declared.trees.Stmt.{For}
 use Rattle.nona_tree.specs.Memory.{Memory, Extends}
 use Rattle.nona_tree.specs.Value.{value_of}
-use Rattle.nona_tree.specs.Run.{Ran, run, done}
+use Rattle.nona_tree.specs.Run.{Ran, run}
 use Rattle.nona_tree.specs.Scope.{IsScoped}
 use Rattle.nona_tree.specs.Entries.{Opened}
 use Rattle.nona_main.specs.declared.frame.Stop.{Stop}

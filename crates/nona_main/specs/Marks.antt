@@ -1,7 +1,7 @@
 -- What is known beforehand of statements: how many regions stand in each.
 use Rattle.std.specs.Prelude.{◌≡◌, ℕ, ◌+◌, ◌<◌, ◌≤◌, ◌^◌, if◌then◌else◌, List, [], ◌∷◌, ◌++◌, length, drop, slice_index_or}
 use Rattle.nona_tree.specs.declared.trees.Stmt.{Stmt, If', While', For', Row_of-Stmt, end_of-Stmt, more_of-Stmt, items-the_row-Stmt}
-use Rattle.nona_tree.specs.Entries.{is_region, loop_with, count_in, count_row, count_all}
+use Rattle.nona_tree.specs.Entries.{is_region, loop_with, count_in, count_row}
 use Rattle.nona_main.specs.declared.marks.Mark.{Mark}
 use Rattle.nona_main.specs.declared.marks.Place.{Place}
 

@@ -13,8 +13,6 @@ use Rattle.nona_tree.specs.Scope.{IsNamed, AreScoped, depth_after_all}
 use Rattle.nona_tree.specs.Entries.{count_all, entries, entries_all}
 use Rattle.nona_main.specs.declared.marks.Mark.{Mark}
 use Rattle.nona_main.specs.declared.steps.Block.{Block}
-use Rattle.nona_main.specs.declared.steps.WhileTurns.{WhileTurns}
-use Rattle.nona_main.specs.declared.steps.ForTurns.{ForTurns}
 use Rattle.nona_main.specs.declared.steps.Task.{Task}
 use Rattle.nona_main.specs.declared.steps.Task.TheVariants as task
 use Rattle.nona_main.specs.Course.{Course, ended, joined, course_of}

@@ -6,16 +6,15 @@ ghost use Rattle.nona_tree.specs.declared.outcomes.Outcome.{Outcome};
 ghost use Rattle.nona_tree.specs.declared.outcomes.Outcome.TheVariants as outcome;
 ghost use Rattle.nona_tree.specs.declared.trees.Stmt as stmt;
 ghost use Rattle.nona_tree.specs.Memory.{Memory, Extends, cut_to};
-ghost use Rattle.nona_tree.specs.Run.{Ran, done};
+ghost use Rattle.nona_tree.specs.Run.{done};
 ghost use Rattle.nona_tree.specs.Scope.{IsNamed, IsScoped, AreScoped, depth_after, depth_after_all};
 ghost use Rattle.nona_tree.specs.Entries.{count_in, count_all};
 ghost use Rattle.nona_main.specs.declared.marks.Mark.{Mark};
 ghost use Rattle.nona_main.specs.declared.steps.Task.{Task};
 ghost use Rattle.nona_main.specs.declared.steps.Task.TheVariants as task;
 ghost use Rattle.nona_main.specs.Course.{joined, ended, course_of};
-ghost use Rattle.nona_main.specs.Frame.{Stops, StaysReady, Leaves};
 ghost use Rattle.nona_main.specs.Marks.{marks_in, IsMarked};
-ghost use Rattle.nona_main.specs.Tasks.{course_in, course_of_while, course_of_turns, course_of_task, course_by, left_by, depth_behind, IsBlockMarked, IsReady, AreReady};
+ghost use Rattle.nona_main.specs.Tasks.{course_in, course_of_while, course_of_turns, course_of_task, course_by, depth_behind, IsBlockMarked, IsReady, AreReady};
 ghost use Rattle.nona_main.specs.Steps.{StepsTo, StepReady, IsSplit};
 ghost use Rattle.nona_main.specs.Costs.{cost_in, cost_all, cost_of, cost_by};
 

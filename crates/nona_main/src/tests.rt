@@ -323,6 +323,23 @@ fn started(alloc: Global, scalars: &[i64]) -> Result<Store, AllocError> {
     Store::start(alloc, &program, Vec::new(alloc))
 }
 
+/// The frame before the first of these statements, whose names are in the store.
+fn begun<'a>(
+    rt: &impl Abort,
+    alloc: Global,
+    main: &'a [Stmt],
+    turns: u64,
+    store: &Store,
+) -> Result<TreeFrame<'a>, AllocError>
+    ensures { IfOk result (λ frame. ready_of frame turns (length store.now.scalars) (length store.now.arrays)) }
+{
+    assert!(rt; store.count_arrays() == 1);
+    assert!(rt; are_scoped(main, store.depth()));
+    assert!(rt; counted_all(main) < 1000);
+    let frame = TreeFrame::begin(alloc, main)?;
+    Ok(frame)
+}
+
 /// Goes on to the next region, writes its number and bounds down and runs its whole loop, or to the end.
 fn go_on(
     rt: &impl Abort,
@@ -379,9 +396,7 @@ fn stops(
     let mut regions = Vec::new(alloc);
     let main = statements(alloc, text, &mut regions)?;
     let mut store = started(alloc, scalars)?;
-    assert!(rt; store.count_arrays() == 1 && are_scoped(main.as_slice(), store.depth()));
-    assert!(rt; counted_all(main.as_slice()) < 1000);
-    let mut frame = TreeFrame::begin(alloc, main.as_slice())?;
+    let mut frame = begun(rt, alloc, main.as_slice(), turns, &store)?;
     let mut seen = String::new(alloc);
     for _stop in 0..10 {
         let of = regions.as_slice();

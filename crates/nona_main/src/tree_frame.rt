@@ -22,8 +22,9 @@ use std::alloc::{AllocError, Global};
 
 /// Runs the main statements of a program as they stand in its tree.
 ///
-/// A step takes constant time, but for statements in which no region stands: these run in one piece, as fast as a walk
-/// over them. Memory grows with the statements outside regions, and with the nesting of blocks, and not with turns.
+/// It goes once over the statements outside regions to count the regions in each. From then on a step takes constant
+/// time, but for a statement in which no region stands, which `nona_walk` runs in one piece. Memory grows with the
+/// statements outside regions and with the nesting of blocks, and not with turns.
 #[derive(Drop)]
 pub struct TreeFrame<'a> {
     /// What is left to do, the next task last.

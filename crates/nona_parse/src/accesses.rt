@@ -1,10 +1,10 @@
 // Names in expressions, cells and lengths of arrays.
 
-ghost use Rattle.std.specs.Prelude.{◌≡◌, ◌<◌, ◌≤◌, ◌∷◌, [], ℕ, List, length, IfOk, MatchResult, MatchOption};
+ghost use Rattle.std.specs.Prelude.{◌<◌, ◌≤◌, ◌∷◌, [], ℕ, List, length, IfOk, MatchResult};
 ghost use Rattle.nona_grammar.specs.Levels.{named};
-ghost use Rattle.nona_grammar.specs.Stack.{Reach, push};
+ghost use Rattle.nona_grammar.specs.Stack.{Reach, Fetch, push};
 ghost use Rattle.nona_grammar.specs.Machine.{MaybeCell, Index, LenOpen, Whole, Want, Do};
-ghost use Rattle.nona_parse.specs.Steps.{Reads, Fails, Turns, same, reaches};
+ghost use Rattle.nona_parse.specs.Steps.{Reads, Fails, Turns, reaches};
 
 use crate::expressions::expression;
 use crate::fault::ReadFault;
@@ -30,15 +30,31 @@ pub fn scalar_or_cell<'a>(
     match split_first(spots) {
         None => Ok((Expr::Scalar(use_of(text, at)), spots)),
         Some((first, later)) => match &first.token {
-            Token::Sign(Sign::OpenIndex) => match cell(alloc, text, at, later) {
-                Ok((place, rest)) => match Boxed::new(alloc, place) {
-                    Ok(place) => Ok((Expr::Cell(place), rest)),
-                    Err(_) => Err(ReadFault::NoMemory),
-                },
-                Err(fault) => Err(fault),
-            },
+            Token::Sign(Sign::OpenIndex) => cell_value(alloc, text, at, later),
             _ => Ok((Expr::Scalar(use_of(text, at)), spots)),
         },
+    }
+}
+
+/// The value of a cell behind the name of its array and the `[`.
+#[cycle(expr)]
+fn cell_value<'a>(
+    alloc: Global,
+    text: &Name,
+    at: u32,
+    spots: &'a [Spot],
+) -> Result<(Expr, &'a [Spot]), ReadFault>
+    ensures shorter { IfOk result (λ x. length x.1.now < length spots.now) }
+    ensures read { MatchResult result
+        (λ x. Reads (Index text.now at ∷ Want Sign.CloseIndex ∷ Do Fetch ∷ []) spots.now (push x.0) x.1.now)
+        (λ fault. Fails fault (Index text.now at ∷ Want Sign.CloseIndex ∷ Do Fetch ∷ []) spots.now) }
+{
+    match cell(alloc, text, at, spots) {
+        Ok((place, rest)) => match Boxed::new(alloc, place) {
+            Ok(place) => Ok((Expr::Cell(place), rest)),
+            Err(_) => Err(ReadFault::NoMemory),
+        },
+        Err(fault) => Err(fault),
     }
 }
 

@@ -3,7 +3,7 @@
 ghost use Rattle.std.specs.Prelude.{◌≡◌, ◌<◌, ◌≤◌, ◌∷◌, [], true, false, length, IfOk, IfSome, MatchOption, MatchResult};
 ghost use Rattle.nona_grammar.specs.Stack.{Branch, Repeat, push, adds, block, act};
 ghost use Rattle.nona_grammar.specs.Machine.{Stmts, Statement, Else, ForWord, ForName, Block, Whole, In, Want, Do};
-ghost use Rattle.nona_parse.specs.Steps.{Reads, Fails, Turns, same};
+ghost use Rattle.nona_parse.specs.Steps.{Reads, Fails, Turns};
 
 use crate::expressions::expression;
 use crate::fault::ReadFault;

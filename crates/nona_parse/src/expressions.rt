@@ -1,4 +1,4 @@
-ghost use Rattle.std.specs.Prelude.{◌≡◌, ◌<◌, ◌≤◌, ◌∷◌, [], length, IfOk, MatchResult};
+ghost use Rattle.std.specs.Prelude.{◌<◌, ◌≤◌, ◌∷◌, [], length, IfOk, MatchResult};
 ghost use Rattle.nona_grammar.specs.Levels.{loosest};
 ghost use Rattle.nona_grammar.specs.Stack.{push};
 ghost use Rattle.nona_grammar.specs.Machine.{Primary, Whole, Compare, Level, Tail, Want};

@@ -7,8 +7,8 @@ pub enum ParseFault {
     Number { at: u32 },
     /// The word there has more than 32 bytes.
     NameLong { at: u32 },
-    /// The tokens before the place are the front of a program, and with the token there they are not. Where it is the
-    /// text's end, the text is the front of a program that it breaks off.
+    /// The tokens before the place are the front of a program, and with the token there they are not. At the text's end
+    /// the text is the front of a program, and more is to come.
     Syntax { at: u32 },
     /// A bracket there would be the 65th that is open, or an operator there the 65th of its count. A count begins behind
     /// a `;`, with each block and behind it, and within each pair of `(` and `)` or of `[` and `]`, behind which the

@@ -10,7 +10,7 @@
 //! - Blocks: `{` begins one. `i1` is a `for` with index 1 behind its bounds and its block, `@@` a `while` behind its test and
 //!   its block, and `??` an `if` behind its test and its two blocks.
 
-ghost use Rattle.std.specs.Prelude.{◌≡◌, ◌<◌, ◌≤◌, ◌+◌, ◌^◌, IsTrue, IfOk, length};
+ghost use Rattle.std.specs.Prelude.{◌≡◌, ◌<◌, ◌≤◌, ◌+◌, ◌^◌, IsTrue, IfOk};
 ghost use Rattle.nona_store.specs.Arrays.{AreSized};
 ghost use Rattle.nona_tree.specs.Scope.{IsNamed, IsCellNamed, IsScoped, AreScoped, depth_after};
 
@@ -458,6 +458,12 @@ fn operators_wrap_and_divide(rt: HostRuntime) -> Result<(), Fail> {
         tests.as_slice(),
         "Done [] [0] [1, 0, 1, 0, 1]",
     )?;
+    Ok(())
+}
+
+#[test]
+fn a_quotient_by_zero_traps(rt: HostRuntime) -> Result<(), Fail> {
+    let alloc = rt.alloc();
     let zero = "Trap(Trap { kind: Divide, at: 90 }) [] [0] [4]";
     leaves(
         &rt,

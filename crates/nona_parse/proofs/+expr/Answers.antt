@@ -101,11 +101,9 @@ expressions::primary-returns-in-Number-clause-read t c = λ end k v.
     ∙ acted end (Leaf (expr.Number c.in-Number.n)) k v c.in-Some.later.now
     ∙ ap (λ n. build end k (push (expr.Number n) v) c.in-Some.later.now) (sym (to_z-of_z w64 c.in-Number.n (search rules)))
 
-pub accesses::scalar_or_cell-returns-in-Ok-new-clause-read : goal.accesses::scalar_or_cell-returns-in-Ok-new-clause-read
-accesses::scalar_or_cell-returns-in-Ok-new-clause-read t c = λ end k v.
-    let is : c.in-Some.first.now.token ≡ token.Sign sign.OpenIndex = search rules in
-    taken end (MaybeCell c.args.text.now c.args.at) k v c.args.spots.now c.in-Some.first.now c.in-Some.later.now (token.Sign sign.OpenIndex) _ c.in-Some.ensures is refl
-    ∙ c.in-Ok.ensures.read end (Do Fetch ∷ k) v ∙ acted end Fetch k (reaches c.in-Ok.place v) c.in-Ok.rest.now
+pub accesses::cell_value-returns-in-Ok-new-clause-read : goal.accesses::cell_value-returns-in-Ok-new-clause-read
+accesses::cell_value-returns-in-Ok-new-clause-read t c = λ end k v.
+    c.in-Ok.ensures.read end (Do Fetch ∷ k) v ∙ acted end Fetch k (reaches c.in-Ok.place v) c.in-Ok.rest.now
     ∙ ap (λ (p : Access). build end k (push (expr.Cell p) v) c.in-Ok.rest.now) (sym c.in-Ok-new.ensures)
 
 pub accesses::cell-returns-in-Ok-sign-clause-read : goal.accesses::cell-returns-in-Ok-sign-clause-read

@@ -5,6 +5,9 @@ use Rattle.nona_parse.proofs.+expr.Given as goal
 
 -- mostly the tokens that are left, and among the functions that take the same tokens which calls which
 
+abbrev pub decreases-accesses::cell_value : goal.decreases-accesses::cell_value
+decreases-accesses::cell_value l = 20 * length l.spots.now + 12
+
 abbrev pub decreases-accesses::cell : goal.decreases-accesses::cell
 decreases-accesses::cell l = 20 * length l.spots.now + 11
 

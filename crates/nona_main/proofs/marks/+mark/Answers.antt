@@ -1,8 +1,8 @@
-use Rattle.std.proofs.Common.{arith, rules, ◌≡◌, ◌<◌, ◌+◌, ◌^◌, ◌∷◌, [], ◌++◌, true, false, length, sym, ap, subst, ◌∙◌, append_assoc, vec_len}
+use Rattle.std.proofs.Common.{arith, rules, ◌≡◌, ◌<◌, ◌^◌, ◌++◌, length, sym, ap, subst, ◌∙◌, append_assoc}
 use Rattle.nona_tree.specs.declared.trees.Stmt.{the_lemmas}
-use Rattle.nona_tree.specs.Entries.{is_region, count_in, count_all}
+use Rattle.nona_tree.specs.Entries.{count_all}
 use Rattle.nona_main.specs.Marks.{headed, marks_inside, marks_all}
-use Rattle.nona_main.proofs.MarkLaws.{marks_if, marks_while, marks_for, marks_region, count_if, count_while, count_for, count_region, set_before}
+use Rattle.nona_main.proofs.MarkLaws.{marks_if, marks_while, marks_for, count_if, count_while, count_for, set_before}
 use Rattle.nona_main.proofs.marks.+mark.Goals as goal
 
 pub mark_inside-mark_block-requires : goal.mark_inside-mark_block-requires

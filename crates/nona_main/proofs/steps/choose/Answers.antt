@@ -1,4 +1,4 @@
-use Rattle.std.proofs.Common.{arith, ◌≡◌, ◌+◌, ◌∷◌, ap, sym, ◌∙◌, rules, reverse, length, true, false, FitsSigned}
+use Rattle.std.proofs.Common.{arith, ◌≡◌, ◌∷◌, ap, sym, ◌∙◌, rules, reverse, length, true, false, FitsSigned}
 use Rattle.std.specs.Int.{w64}
 use Rattle.std.proofs.lemmas.Int.{to_z-of_z}
 use Rattle.nona_tree.specs.Value.{is_zero}

@@ -1,4 +1,4 @@
-use Rattle.std.proofs.Common.{◌≡◌, ◌+◌, ◌*◌, ◌≤◌, List, ap, sym, subst, ◌∙◌, rules, reverse, length}
+use Rattle.std.proofs.Common.{◌+◌, List, ap, sym, subst, ◌∙◌, reverse}
 use Rattle.nona_tree.specs.declared.trees.Stmt.{Stmt}
 use Rattle.nona_tree.specs.Entries.{count_all}
 use Rattle.nona_walk.proofs.Parts.{in_if, in_while}

@@ -1,4 +1,4 @@
-use Rattle.std.proofs.Common.{◌≡◌, ◌∷◌, ap, sym, subst, ◌∙◌, reverse}
+use Rattle.std.proofs.Common.{ap, sym, subst, ◌∙◌, reverse}
 use Rattle.std.specs.Prelude.{IfOk}
 use Rattle.nona_main.specs.Course.{Course, joined, course_of}
 use Rattle.nona_main.specs.Tasks.{course_after, course_in, course_by}

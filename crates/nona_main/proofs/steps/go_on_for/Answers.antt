@@ -1,4 +1,4 @@
-use Rattle.std.proofs.Common.{arith, rules, ◌≡◌, ◌<◌, pos, ◌+ℤ◌, ◌<ℤ◌, ap, ◌∙◌, reverse, FitsSigned}
+use Rattle.std.proofs.Common.{arith, rules, ◌<◌, pos, ◌+ℤ◌, ◌<ℤ◌, ap, ◌∙◌, reverse, FitsSigned}
 use Rattle.std.specs.Int.{w64}
 use Rattle.std.proofs.lemmas.Int.{to_z-of_z, ints}
 use Rattle.nona_main.specs.Tasks.{course_by}

@@ -1,4 +1,4 @@
-use Rattle.std.proofs.Common.{arith, ◌≡◌, ◌-◌, ◌∷◌, ap, ◌∙◌, reverse, length}
+use Rattle.std.proofs.Common.{arith, ◌-◌, ◌∷◌, ap, ◌∙◌, reverse, length}
 use Rattle.nona_main.specs.declared.steps.Task.{Task}
 use Rattle.nona_main.specs.declared.steps.Task.TheVariants as task
 use Rattle.nona_main.proofs.Readiness.{block_ready}
