@@ -98,6 +98,8 @@ fn send_written(
     put(rt, &mut store, 2, 0, -9223372036854775808);
     assert!(rt; program.vars.len() <= store.depth());
     assert!(rt; program.arrays.len() < store.count_arrays());
+    assert!(rt; program.vars.len() < 100);
+    assert!(rt; program.arrays.len() < 100);
     Ok(send_memory(alloc, &program, &store, out))
 }
 
