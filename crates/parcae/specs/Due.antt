@@ -1,5 +1,5 @@
 -- What is due of a command.
-use Rattle.std.specs.Prelude.{◌≡◌, ℕ, Bool, true, false, if◌then◌else◌, ℤ, List, [], ◌∷◌, ◌++◌, length, None, Some}
+use Rattle.std.specs.Prelude.{◌≡◌, ◌≤◌, ℕ, Bool, true, false, if◌then◌else◌, ℤ, List, [], ◌∷◌, ◌++◌, length, None, Some}
 use Rattle.std.specs.declared.option.Option.{Option}
 use Rattle.nona_tree.specs.declared.trees.Program.{Program}
 use Rattle.nona_tree.specs.Memory.{Memory, Extends}
@@ -43,11 +43,11 @@ pub record IsReplayed (commands : List Order) (es : List EntryView) (log : LogVi
   pub legal : IsLegalLog (λ e so_far ask. ask ≡ script_asks commands so_far) es log
   pub replayed : IsReplayOf commands log
 
--- What is due of a replay: the sequential meaning and the whole log; or, where the log is full, the numbers printed where the
--- next interval would start; or, where something fails before, a front of the numbers printed at a place behind the log's
--- intervals, which the sequential meaning prints too.
+-- What is due of a replay: the sequential meaning and the whole log, which isn't more than full; or, where the log is full
+-- and one more interval would start, the numbers printed up to there; or, where something fails before, a front of the
+-- numbers printed at a place behind the log's intervals, which the sequential meaning prints too.
 pub data DueOfReplay (tree : Program) (es : List EntryView) (ran : Ran) (commands : List Order) (memory log : Bool) : Way → Type 0 where
-  ran_replay : (l : LogView) → IsReplayed commands es l → EndsAll es (last_in l.intervals)
+  ran_replay : (l : LogView) → IsReplayed commands es l → EndsAll es (last_in l.intervals) → length l.intervals ≤ most
       → DueOfReplay tree es ran commands memory log
       (Whole (finished ran l) (number_lines ran.store.printed) (behind_numbers tree ran memory (where_asked log (log_text l))))
   log_full : (l : LogView) (m : Memory) → IsReplayed commands es l → length l.intervals ≡ most → StartsNext es l.intervals m

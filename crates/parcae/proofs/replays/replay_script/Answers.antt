@@ -44,7 +44,7 @@ returns-in-Ok-drive g c =
     (written c.args.out.now) (written c.drive.new.out) (written c.finish.new.out)
     (faults c.args.out.now) (faults c.drive.new.out) (faults c.finish.new.out)
     ran log (number_lines ran.store.printed) (behind_numbers p ran c.args.asked.memory (where_asked c.args.asked.log (log_text log))) (told_of c.finish.result)
-    (ran_replay log replayed ended)
+    (ran_replay log replayed ended c.in-Ok-drive.ensures.few)
     (subst (λ (r : Ran). Appends (written c.args.out.now) (written c.drive.new.out) (number_lines r.store.printed)) c.in-Ok-drive.ensures.ended c.in-Ok-drive.ensures.put)
     c.in-Ok-drive.ensures.later
     (rw (← c.program-in-Ok-drive.ensures.program) c.finish.ensures.finishes))
