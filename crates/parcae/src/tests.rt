@@ -450,8 +450,11 @@ fn each_failing_put_leaves_a_front(rt: HostRuntime) -> Result<(), Fail> {
         (2, 1, false),
         (3, 2, false),
         (4, 2, true),
+        (5, 2, true),
+        (6, 2, true),
         (7, 2, true),
         (8, 2, true),
+        (9, 2, true),
         (10, 2, true),
     ];
     for (put, intervals, ended) in cases {
