@@ -272,6 +272,14 @@ fn scripts_make_intervals(rt: HostRuntime) -> Result<(), Fail> {
             Status::Done,
             "entry 1 region 1 low 5 high 5\nfrom 5 to 5 asked seq 1 ran seq 1 steps 1 waits 0 ticks 1 end limit\nintervals 1\n",
         ),
+    ];
+    compare(&rt, rt.alloc(), &cases)?;
+    Ok(())
+}
+
+#[test]
+fn replays_end_as_one_thread_does(rt: HostRuntime) -> Result<(), Fail> {
+    let cases = [
         (
             "replay p --script s --turns 5 --log",
             "var s; for i in 0..8 { s += i; } print s;",
@@ -289,13 +297,21 @@ fn scripts_make_intervals(rt: HostRuntime) -> Result<(), Fail> {
             "3\ntrap index at 38\narray a 7\na[1] = 1\na[2] = 2\na[3] = 3\na[4] = 4\na[5] = 5\na[6] = 6\nentry 1 region 1 low 0 high 10\nfrom 0 to 8 asked seq 1 ran seq 1 steps 16 waits 0 ticks 16 end trap\nintervals 1\n",
         ),
         (
-            line,
+            "replay p --script s --log",
             "seq for k in 0..2 { for i in k..3 { print i; } }",
             "",
             "",
             Status::Done,
             "0\n1\n2\n1\n2\nentry 1 region 1 low 0 high 3\nfrom 0 to 3 asked seq 1 ran seq 1 steps 7 waits 0 ticks 7 end limit\nentry 2 region 1 low 1 high 3\nfrom 1 to 3 asked seq 1 ran seq 1 steps 5 waits 0 ticks 5 end limit\nintervals 2\n",
         ),
+    ];
+    compare(&rt, rt.alloc(), &cases)?;
+    Ok(())
+}
+
+#[test]
+fn the_first_text_that_is_refused_counts(rt: HostRuntime) -> Result<(), Fail> {
+    let cases = [
         (
             "replay p --script s",
             SUM,
