@@ -269,7 +269,3 @@ nesting_ids_all (s ∷ rest) seen = λ i. max (nesting_stmt s seen i) (nesting_i
 
 pub same_nesting : (p : Program) → nesting_of (ids_of p) ≡ nesting_of p
 same_nesting p = nesting_ids_all p.body (seen_by_body p)
-
-pub ids_checked : (p : Program) → IsSmall p → faults_of p ≡ [] → IsChecked (ids_of p)
-ids_checked p h none =
-    ((subst (λ n. n ≤ size_bound) (sym (same_size p)) h.0, subst (λ n. n ≤ nesting_bound) (sym (same_nesting p)) h.1), same_faults p ∙ none, same_ids p)
