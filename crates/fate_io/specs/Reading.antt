@@ -5,6 +5,21 @@ use Rattle.std.specs.declared.result.Result.{Result}
 use Rattle.fate_io.specs.declared.shelves.ShelfFault.{ShelfFault}
 use Rattle.fate_io.specs.declared.shelves.ShelfFault.TheVariants.{Failed, Long, NoMemory}
 
+-- what a shelf tells of a name: nothing, or that nothing is there, or the bytes that are
+abbrev pub Held : Type 0
+Held = Option (Option (List ℕ))
+
+-- what a shelf shows of a call: what it tells of each name, and the names of failed reads before and after
+pub record Looked : Type 0 where
+  pub held : List ℕ → Held
+  pub failed_before : List (List ℕ)
+  pub failed : List (List ℕ)
+
+-- what a shelf shows of a call that began with the first of these two
+abbrev pub looked_since : {S : Type 0} → (S → List ℕ → Held) → (S → List (List ℕ)) → S → S → Looked
+looked_since held failed first now =
+    record { held = held first; failed_before = failed first; failed = failed now }
+
 -- a read that failed adds its name at the end of those that failed, and every other read leaves them
 abbrev pub FailedAfter : {T : Type 0} → List (List ℕ) → List (List ℕ) → List ℕ → Result T ShelfFault → Type 0
 FailedAfter old new name (Ok x) = new ≡ old
@@ -13,7 +28,7 @@ FailedAfter old new name (Err Long) = new ≡ old
 FailedAfter old new name (Err NoMemory) = new ≡ old
 
 -- a read gives the whole content where it is short enough, and nothing after a fault; what is told of the name agrees with it
-abbrev pub ReadGives : {T : Type 0} → Option (Option (List ℕ)) → ℕ → List ℕ → Result T ShelfFault → Type 0
+abbrev pub ReadGives : {T : Type 0} → Held → ℕ → List ℕ → Result T ShelfFault → Type 0
 ReadGives held most into (Ok x) = (length into ≤ most) × IfSome held (λ content. content ≡ Some into)
 ReadGives held most into (Err Failed) = into ≡ []
 ReadGives held most into (Err Long) = (into ≡ []) × IfSome held (λ content. IsSomeAnd content (λ bytes. most < length bytes))
