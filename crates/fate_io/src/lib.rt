@@ -1,5 +1,6 @@
 //! What a run reaches outside of itself: a shelf of files that are read by name, and a sink of bytes.
 //! Each has a kind in memory, for tests and worked cases, and a kind over the real machine.
+//! What was opened is read by `read_opened`, over any reader.
 #![tactic(auto)]
 
 mod machine_shelf;

@@ -8,7 +8,8 @@ use std::fs;
 use std::marker::Model;
 use std::rt::Files;
 
-/// The files of the machine, by their paths. It tells nothing of their content.
+/// The files of the machine, by their paths. It tells nothing of their content, and gives of each
+/// file what `read_opened` gives of what was opened.
 #[derive(Drop)]
 pub struct FileShelf<'a, R: Files> {
     alloc: Global,
@@ -36,7 +37,8 @@ impl<'a, R: Files> FileShelf<'a, R> {
     }
 }
 
-/// Opens a file. No contract says what the machine holds: this call alone has none.
+/// Opens a file; `None` is an opening that failed. No contract can say what the machine holds, so
+/// this call has none, and what follows it has one over any reader.
 fn open_file<R: Files>(files: &R, name: &str) -> Option<CountedReader<R::File>> {
     match fs::open(files, name) {
         Ok(file) => Some(CountedReader::new(file)),
@@ -49,8 +51,7 @@ impl<R: Files> Shelf for FileShelf<'_, R> {
 
     ghost failed = { λ s. s };
 
-    /// The room for a name that fails is taken before the file is opened. The content is what
-    /// `read_opened` gives of what was opened.
+    /// The room for a name that fails is taken before the file is opened.
     fn read(&mut self, name: &str, most: usize, into: &mut Vec<u8>) -> Result<(), ShelfFault> {
         into.clear();
         let Ok(kept) = String::from_str(self.alloc, name) else {

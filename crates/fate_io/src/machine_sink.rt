@@ -1,5 +1,5 @@
 //! A writer of the machine, as a sink.
-ghost use Rattle.std.specs.Prelude.{◌≡◌, ℕ};
+ghost use Rattle.std.specs.Prelude.{◌≡◌, ◌<◌, ℕ, IfOk};
 ghost use Rattle.std.specs.Io.{WritesAtMost};
 ghost use Rattle.std.specs.Io.KnownBytes.{WriteAppends};
 ghost use Rattle.fate_io.specs.Putting.{Puts, OutView};
@@ -31,7 +31,7 @@ impl<W: Write + Drop> OutSink<W> {
 }
 
 /// One write, which is tried again where it was interrupted.
-fn write_some<W: Write>(out: &mut W, piece: &[u8]) -> Result<usize, Failed>
+fn write_once<W: Write>(out: &mut W, piece: &[u8]) -> Result<usize, Failed>
     ensures bound { WritesAtMost result piece.now }
     ensures bytes { WriteAppends (W.contents out.old) (W.contents out.new) result piece.now }
 {
@@ -48,15 +48,27 @@ fn write_some<W: Write>(out: &mut W, piece: &[u8]) -> Result<usize, Failed>
     Err(Failed)
 }
 
-/// Writes the whole piece, or after a failure a front of it. A write that takes nothing is a
-/// failure, so with each further one less of the piece is left.
+/// Writes some of a piece that isn't empty, at least one byte. A write that takes nothing is a
+/// failure.
+fn write_some<W: Write>(out: &mut W, piece: &[u8]) -> Result<usize, Failed>
+    ensures some { IfOk result (λ count. 0 < count) }
+    ensures bound { WritesAtMost result piece.now }
+    ensures bytes { WriteAppends (W.contents out.old) (W.contents out.new) result piece.now }
+{
+    match write_once(out, piece) {
+        Ok(0) => Err(Failed),
+        Ok(count) => Ok(count),
+        Err(failed) => Err(failed),
+    }
+}
+
+/// Writes the whole piece, or after a failure a front of it. After each write less is left.
 fn write_whole<W: Write>(out: &mut W, piece: &[u8]) -> Result<(), Failed>
     ensures { Puts (W.contents out.old) (W.contents out.new) piece.now result }
 {
     let mut rest = piece;
     while !rest.is_empty() {
         match write_some(out, rest) {
-            Ok(0) => return Err(Failed),
             Ok(count) => {
                 let (_, later) = rest.split_at(count);
                 rest = later;

@@ -21,4 +21,4 @@ loop-rest-preserved g c =
     let contents = g.W.Write.contents in
     rw c.split_at.ensures.back
     (front_grows (contents c.args.out.now) (contents c.loop-rest.out) (contents c.write_some.new.out) c.args.piece.now c.loop-rest.rest.now
-        c.in-Ok.count c.loop-rest.invariant c.in-Ok.ensures.bytes)
+    c.in-Ok.count c.loop-rest.invariant c.in-Ok.ensures.bytes)

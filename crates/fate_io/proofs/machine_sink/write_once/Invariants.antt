@@ -1,5 +1,5 @@
 use Rattle.std.specs.Io.KnownBytes.{Keeps}
-use Rattle.fate_io.proofs.machine_sink.write_some.Given as goal
+use Rattle.fate_io.proofs.machine_sink.write_once.Given as goal
 
 -- nothing went out so far
 abbrev pub invariant-loop : goal.invariant-loop
