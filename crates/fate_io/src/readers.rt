@@ -1,5 +1,5 @@
 //! A reader whose failures are counted, and the whole of what it gives.
-ghost use Rattle.std.specs.Prelude.{◌≡◌, ℕ, [], None, Err, option_map, Some};
+ghost use Rattle.std.specs.Prelude.{◌≡◌, [], None, Err};
 ghost use Rattle.std.specs.Io.{ReadsAtMost};
 ghost use Rattle.std.specs.Io.KnownBytes.{ReadConsumes};
 ghost use Rattle.fate_io.specs.Causes.{HasCause};
