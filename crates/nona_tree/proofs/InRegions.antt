@@ -9,7 +9,7 @@ use Rattle.nona_tree.specs.Entries.{loop_with, regions_in, regions_row, regions_
 use Rattle.nona_tree.specs.Scope.{IsSteady, IsRowSteady, AreSteady}
 use Rattle.nona_tree.specs.declared.trees.Program.{Program}
 use Rattle.nona_tree.specs.Numbers.{IsI64Stmt, IsI64Row, AreI64Stmts}
-use Rattle.nona_tree.specs.Smallness.{size_of, size_bound, nesting_bound, IsSmall, IsSmallLoop, expr_size, stmt_size, row_size, all_size, stmt_nesting, row_nesting, all_nesting}
+use Rattle.nona_tree.specs.Smallness.{size_bound, nesting_bound, IsSmall, IsSmallLoop, expr_size, stmt_size, row_size, all_size, stmt_nesting, row_nesting, all_nesting}
 use Rattle.nona_tree.proofs.Equations.{steady-For}
 use Rattle.nona_tree.proofs.CheckEquations.{size-For, nesting-For}
 use Rattle.nona_tree.proofs.I64.{block_numbers, list_numbers}

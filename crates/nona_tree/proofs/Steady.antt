@@ -1,5 +1,5 @@
 -- A run keeps each scalar that its text doesn't assign, and a local of an iteration has its value to the end.
-use Rattle.std.proofs.Common.{◌≡◌, ◌≢◌, ℕ, zero, suc, ◌<◌, ◌≤◌, ◌+◌, Bool, true, false, ℤ, pos, ◌+ℤ◌, List, [], ◌∷◌, ◌++◌, length, take, refl, sym, ap, ◌∙◌, subst, arith, length-append}
+use Rattle.std.proofs.Common.{◌≡◌, ◌≢◌, ℕ, suc, ◌<◌, ◌+◌, ℤ, pos, ◌+ℤ◌, List, [], ◌∷◌, ◌++◌, length, refl, sym, ap, ◌∙◌, subst, arith, length-append}
 use Rattle.std.proofs.lemmas.List.{length-set, length-take, get_or-take, get_or-set_other, get_or_append_left, get_or-append-add}
 use Rattle.std.specs.Int.{int_gap}
 use Rattle.std.specs.List.{Contains}
@@ -10,10 +10,10 @@ use Rattle.nona_tree.specs.declared.outcomes.Trap.{Trap}
 use Rattle.nona_tree.specs.declared.outcomes.Outcome.{Outcome}
 use Rattle.nona_tree.specs.declared.outcomes.Outcome.TheVariants as outcome
 use Rattle.nona_tree.specs.declared.trees.Expr.{Expr}
-use Rattle.nona_tree.specs.declared.trees.Stmt.{Stmt, Let, Set, Fold, Put, FoldPut, If', While', For', For, Print, Row_of-Stmt, end_of-Stmt, more_of-Stmt}
-use Rattle.nona_tree.specs.Memory.{Memory, scalar_at, cell_at, declare, assign, put_cell, print, cut_to}
-use Rattle.nona_tree.specs.Run.{Ran, done, trapped, with_value, then_from, then_do, run, run_row, run_all, block, turn, first_turns}
-use Rattle.nona_tree.specs.Scope.{IsScoped, AreScoped, IsSteady, IsRowSteady, AreSteady, depth_after, depth_after_all}
+use Rattle.nona_tree.specs.declared.trees.Stmt.{Stmt, Let, Set, Fold, Put, FoldPut, If', While', For', Print, Row_of-Stmt, end_of-Stmt, more_of-Stmt}
+use Rattle.nona_tree.specs.Memory.{Memory, scalar_at, declare, assign, cut_to}
+use Rattle.nona_tree.specs.Run.{Ran, done, with_value, then_from, then_do, run, run_row, run_all, block, turn}
+use Rattle.nona_tree.specs.Scope.{AreScoped, IsSteady, IsRowSteady, AreSteady, depth_after, depth_after_all}
 use Rattle.nona_tree.specs.Value.{is_zero, value_of, cell_of}
 use Rattle.nona_tree.specs.Entries.{Entry, IsLocal, after, behind_front, in_iteration, local_at}
 use Rattle.nona_tree.proofs.Keeps.{IsPreorder, kept_value, kept_then, kept_if, kept_while, kept_for}

@@ -1,5 +1,5 @@
 -- What a checked program keeps, and what a loop asks of the scalars of a store.
-use Rattle.std.specs.Prelude.{◌≡◌, ℕ, List, [], length}
+use Rattle.std.specs.Prelude.{◌≡◌, ℕ, [], length}
 use Rattle.nona_tree.specs.declared.trees.Loop.{Loop}
 use Rattle.nona_tree.specs.declared.trees.Stmt.{Stmt, For}
 use Rattle.nona_tree.specs.declared.trees.Program.{Program}

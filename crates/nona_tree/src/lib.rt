@@ -9,12 +9,11 @@
 
 mod checked;
 mod checked_laws;
-#[cfg(test)]
-mod checked_tests;
 mod deed_laws;
 mod entry_laws;
 mod faults;
 mod laws;
+mod limits;
 mod names;
 mod outcomes;
 mod plans;
@@ -29,6 +28,7 @@ pub use entry_laws::{
 };
 pub use faults::ProgramFault;
 pub use laws::{lengths_stay, numbers_stay, printed_grows, scalars_stay, state_after};
+pub use limits::{CELLS, NAME_BYTES, NESTING, SIZE, UNITS};
 pub use names::{Name, Use};
 pub use outcomes::{Outcome, Trap, TrapKind};
 pub use plans::{Plan, Stage};
