@@ -11,7 +11,7 @@ use Rattle.nona_lex.specs.declared.tokens.Spot.{Spot}
 use Rattle.nona_lex.specs.declared.tokens.Cut.{Cut}
 use Rattle.nona_lex.specs.declared.tokens.Tokens.{Tokens}
 use Rattle.nona_lex.specs.declared.bounds.TheConstants.{BRACKETS}
-use Rattle.nona_lex.specs.Bounds.{Counts, no_counts, opened, closed_to, behind_sign, behind_token, admitted, bounded_from, bounded}
+use Rattle.nona_lex.specs.Bounds.{Counts, no_counts, behind_opening, closed_to, behind_sign, behind_token, admitted, bounded_from, bounded}
 use Rattle.nona_tree.specs.declared.trees.Access.{Access}
 use Rattle.nona_tree.specs.declared.trees.Expr.{Expr}
 use Rattle.nona_tree.specs.declared.trees.Loop.{Loop}
@@ -59,7 +59,7 @@ some_if true x d e = (refl, cc)
 some_if false x d e = absurd (cc)
 
 -- where one more bracket may be open, it is the newest
-one_opened : (c d : Counts) (P : ℕ → Type 0) → opened c ≡ Some d → P (length d.outside) → (suc (length c.outside) ≤ BRACKETS) × P (suc (length c.outside))
+one_opened : (c d : Counts) (P : ℕ → Type 0) → behind_opening c ≡ Some d → P (length d.outside) → (suc (length c.outside) ≤ BRACKETS) × P (suc (length c.outside))
 one_opened c d P e h =
     let o : Counts = record { operators = 0; outside = c.operators ∷ c.outside } in
     let r = some_if (nat_lt (length c.outside) BRACKETS) o d e in
