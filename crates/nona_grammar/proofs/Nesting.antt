@@ -22,7 +22,7 @@ use Rattle.nona_tree.specs.declared.trees.VarDecl.{VarDecl}
 use Rattle.nona_tree.specs.declared.trees.Program.{Program}
 use Rattle.nona_tree.specs.Smallness.{stmt_nesting, all_nesting, nesting_of}
 use Rattle.nona_tree.proofs.CheckEquations.{nesting-If, nesting-While, nesting-For}
-use Rattle.nona_grammar.specs.Grammar.{IsPlace, IsIndex, IsPrimary, IsLevel, IsExpr, IsStmt, IsLoop, IsBlock, IsElse, IsStmts, IsDecls, IsProgram, place-is, plain-is, wrap-is, number-is, scalar-is, cell-is, len-is, brackets-are, primary-is, negated-is, inverted-is, lower-is, joined-is, level-is, compared-is, let-is, set-is, fold-is, put-is, fold-put-is, if-is, while-is, for-is, seq-for-is, print-is, loop-is, block-is, no-else, else-is, no-more, one-more, no-decl, array-is, var-is, var-value-is}
+use Rattle.nona_grammar.specs.Grammar.{IsCell, IsIndex, IsPrimary, IsLevel, IsExpr, IsStmt, IsLoop, IsBlock, IsElse, IsStmts, IsDecls, IsProgram, indexed-is, plain-is, wrap-is, number-is, scalar-is, cell-is, len-is, brackets-are, primary-is, negated-is, inverted-is, lower-is, joined-is, level-is, compared-is, let-is, set-is, fold-is, put-is, fold-put-is, if-is, while-is, for-is, seq-for-is, print-is, loop-is, block-is, no-else, else-is, no-more, one-more, no-decl, array-is, var-is, var-value-is}
 
 -- ---- brackets
 
@@ -113,8 +113,8 @@ shallow_bounded c (x ∷ ss) cut = shallow_admitted (behind_token x.token c) x c
 
 mutual
   -- behind a place as many brackets are open as before it
-  place_shallow : {ss rest : List Spot} {p : Access} → IsPlace ss rest p → (n : ℕ) → IsShallow n ss → IsShallow n rest
-  place_shallow (place-is n a b c ss rest wrap e i) m h = index_shallow i (suc m) h.1
+  place_shallow : {ss rest : List Spot} {p : Access} → IsCell ss rest p → (n : ℕ) → IsShallow n ss → IsShallow n rest
+  place_shallow (indexed-is n a b c ss rest wrap e i) m h = index_shallow i (suc m) h.1
 
   -- and behind an index
   index_shallow : {ss rest : List Spot} {wrap : Bool} {e : Expr} → IsIndex ss rest wrap e → (n : ℕ) → IsShallow n ss → IsShallow n rest

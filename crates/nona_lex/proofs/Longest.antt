@@ -18,7 +18,7 @@ use Rattle.nona_lex.specs.declared.lexemes.Lexeme.{Lexeme}
 use Rattle.nona_lex.specs.declared.lexemes.Lexeme.TheVariants.{Found, Refused}
 use Rattle.nona_text.specs.Bytes.{is_digit, number_of}
 use Rattle.nona_text.specs.declared.digits.TheConstants.{GREATEST}
-use Rattle.nona_lex.specs.declared.lexemes.TheConstants.{WORD_BYTES}
+use Rattle.nona_tree.specs.declared.limits.TheConstants.{NAME_BYTES}
 use Rattle.nona_lex.specs.Words.{is_letter, is_word_byte, fold_word}
 use Rattle.nona_lex.specs.Signs.{with_equals, doubled, token_of_two, operator_of_one, sign_of_one, token_of_one}
 use Rattle.nona_lex.specs.Lexis.{lexeme_of, sign_lexeme, sign_lexeme_of, single_lexeme, word_lexeme, fold_or_word, number_lexeme, begins_with}
@@ -121,7 +121,7 @@ fold_least None q word k w = w
 
 word_least : (word behind : List ℕ) (k : ℕ) → k ≤ length word → HasAtLeast k (word_lexeme word behind)
 word_least word behind k w =
-    either (HasAtLeast k) (nat_lt WORD_BYTES (length word)) (Refused fault.NameLong) (fold_or_word (fold_word word) (begins_with 61 behind) word)
+    either (HasAtLeast k) (nat_lt NAME_BYTES (length word)) (Refused fault.NameLong) (fold_or_word (fold_word word) (begins_with 61 behind) word)
     (λ e. tt) (λ e. fold_least (fold_word word) (begins_with 61 behind) word k w)
 
 -- the lexeme of digits has at least their count

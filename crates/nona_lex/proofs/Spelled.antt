@@ -17,7 +17,7 @@ use Rattle.nona_lex.specs.declared.lexemes.Lexeme.{Lexeme}
 use Rattle.nona_lex.specs.declared.lexemes.Lexeme.TheVariants.{Found, Refused}
 use Rattle.nona_text.specs.Bytes.{is_blank, is_digit, number_of}
 use Rattle.nona_text.specs.declared.digits.TheConstants.{GREATEST}
-use Rattle.nona_lex.specs.declared.lexemes.TheConstants.{WORD_BYTES}
+use Rattle.nona_tree.specs.declared.limits.TheConstants.{NAME_BYTES}
 use Rattle.nona_lex.specs.Words.{is_letter, is_word_byte, keyword_of, fold_word}
 use Rattle.nona_lex.specs.Signs.{with_equals, doubled, token_of_two, operator_of_one, sign_of_one, token_of_one, first_of_two}
 use Rattle.nona_lex.specs.Lexis.{lexeme_of, sign_lexeme, sign_lexeme_of, single_lexeme, word_lexeme, word_token, fold_or_word, number_lexeme, begins_with}
@@ -172,7 +172,7 @@ words_spelled : (text word : List ℕ) → take (length word) text ≡ word → 
     → IsSpelled text (word_lexeme word (drop (length word) text))
 words_spelled text word front h =
     let equals : Bool = begins_with 61 (drop (length word) text) in
-    either (IsSpelled text) (nat_lt WORD_BYTES (length word)) (Refused fault.NameLong) (fold_or_word (fold_word word) equals word) (λ _. tt)
+    either (IsSpelled text) (nat_lt NAME_BYTES (length word)) (Refused fault.NameLong) (fold_or_word (fold_word word) equals word) (λ _. tt)
     (λ _. fold_spelled text word (fold_word word) equals front h (fold_is word) refl)
 
 numbers_spelled : (text digits : List ℕ) → take (length digits) text ≡ digits → is_number digits ≡ true → IsSpelled text (number_lexeme digits)

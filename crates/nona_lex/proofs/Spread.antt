@@ -8,7 +8,7 @@ use Rattle.std.proofs.lemmas.List.{length-drop}
 use Rattle.nona_num.specs.declared.folds.Fold.{Fold}
 use Rattle.nona_text.specs.Bytes.{is_blank, is_digit, number_of}
 use Rattle.nona_text.specs.declared.digits.TheConstants.{GREATEST}
-use Rattle.nona_lex.specs.declared.lexemes.TheConstants.{WORD_BYTES}
+use Rattle.nona_tree.specs.declared.limits.TheConstants.{NAME_BYTES}
 use Rattle.nona_lex.specs.declared.lexemes.Lexeme.{Lexeme}
 use Rattle.nona_lex.specs.declared.lexemes.Lexeme.TheVariants.{Gap, Found, Refused}
 use Rattle.nona_lex.specs.declared.tokens.Token.{Token}
@@ -42,7 +42,7 @@ fold_no_gap None q word = tt
 
 word_no_gap : (word behind : List ℕ) → IsNoGap (word_lexeme word behind)
 word_no_gap word behind =
-    either IsNoGap (nat_lt WORD_BYTES (length word)) (Refused fault.NameLong) (fold_or_word (fold_word word) (begins_with 61 behind) word)
+    either IsNoGap (nat_lt NAME_BYTES (length word)) (Refused fault.NameLong) (fold_or_word (fold_word word) (begins_with 61 behind) word)
     (λ _. tt) (λ _. fold_no_gap (fold_word word) (begins_with 61 behind) word)
 
 number_no_gap : (digits : List ℕ) → IsNoGap (number_lexeme digits)

@@ -12,7 +12,7 @@ use Rattle.nona_lex.specs.declared.lexemes.Lexeme.{Lexeme}
 use Rattle.nona_lex.specs.declared.lexemes.Lexeme.TheVariants.{Found, Refused}
 use Rattle.nona_text.specs.Bytes.{is_blank, is_digit, number_of}
 use Rattle.nona_text.specs.declared.digits.TheConstants.{GREATEST}
-use Rattle.nona_lex.specs.declared.lexemes.TheConstants.{WORD_BYTES}
+use Rattle.nona_tree.specs.declared.limits.TheConstants.{NAME_BYTES}
 use Rattle.nona_lex.specs.Words.{is_letter, is_word_byte, is_comment_byte, fold_word}
 use Rattle.nona_lex.specs.Signs.{token_of_two, token_of_one}
 use Rattle.nona_lex.specs.Lexis.{lexeme_of, sign_lexeme, sign_lexeme_of, single_lexeme, word_lexeme, fold_or_word, number_lexeme, begins_with}
@@ -57,7 +57,7 @@ fold_within text word None q p w e = (p, w)
 word_within : (text word : List ℕ) → 0 < length word → length word ≤ length text → FitsIn (word_lexeme word (drop (length word) text)) (length text)
 word_within text word p w =
     let equals : Bool = begins_with 61 (drop (length word) text) in
-    either (λ x. FitsIn x (length text)) (nat_lt WORD_BYTES (length word)) (Refused fault.NameLong) (fold_or_word (fold_word word) equals word) (λ _. tt)
+    either (λ x. FitsIn x (length text)) (nat_lt NAME_BYTES (length word)) (Refused fault.NameLong) (fold_or_word (fold_word word) equals word) (λ _. tt)
     (λ _. fold_within text word (fold_word word) equals p w refl)
 
 number_within : (digits : List ℕ) (n : ℕ) → 0 < length digits → length digits ≤ n → FitsIn (number_lexeme digits) n

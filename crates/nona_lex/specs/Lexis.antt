@@ -13,7 +13,7 @@ use Rattle.nona_lex.specs.declared.lexemes.Lexeme.{Lexeme}
 use Rattle.nona_lex.specs.declared.lexemes.Lexeme.TheVariants.{Gap, Found, Refused}
 use Rattle.nona_text.specs.Bytes.{is_blank, is_digit, number_of}
 use Rattle.nona_text.specs.declared.digits.TheConstants.{GREATEST}
-use Rattle.nona_lex.specs.declared.lexemes.TheConstants.{WORD_BYTES}
+use Rattle.nona_tree.specs.declared.limits.TheConstants.{NAME_BYTES}
 use Rattle.nona_lex.specs.Words.{is_letter, is_word_byte, is_comment_byte, keyword_of, fold_word}
 use Rattle.nona_lex.specs.Signs.{token_of_two, token_of_one}
 
@@ -36,7 +36,7 @@ fold_or_word None equals word = Found (word_token (keyword_of word) word) (lengt
 -- the lexeme that begins with a word, and the bytes behind the word
 abbrev pub word_lexeme : List ℕ → List ℕ → Lexeme
 word_lexeme word behind =
-    if nat_lt WORD_BYTES (length word) then Refused fault.NameLong
+    if nat_lt NAME_BYTES (length word) then Refused fault.NameLong
     else fold_or_word (fold_word word) (begins_with 61 behind) word
 
 -- the lexeme that digits are

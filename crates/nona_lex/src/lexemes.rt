@@ -10,10 +10,7 @@ ghost use Rattle.nona_lex.specs.Progress.{FitsIn, IsLexeme};
 use crate::tokens::{Fault, Keyword, Operator, Sign, Token};
 use nona_num::Fold;
 use nona_text::{GREATEST, is_blank, is_digit, value};
-use nona_tree::Name;
-
-/// The most bytes of a word.
-pub const WORD_BYTES: usize = 32;
+use nona_tree::{NAME_BYTES, Name};
 
 /// What stands where a token may begin, and how many bytes it has.
 #[derive(Debug, Drop)]
@@ -93,7 +90,7 @@ fn fold_word(word: &[u8]) -> Option<Fold>
 }
 
 fn word_token(word: &[u8]) -> Token
-    requires { length word.now ≤ WORD_BYTES }
+    requires { length word.now ≤ NAME_BYTES }
     ensures { result ≡ word_token (keyword_of word.now) word.now }
 {
     match keyword(word) {
@@ -115,7 +112,7 @@ fn begins_with_equals(bytes: &[u8]) -> bool
 fn word(word: &[u8], behind: &[u8]) -> Lexeme
     ensures value { result ≡ word_lexeme word.now behind.now }
 {
-    if word.len() > WORD_BYTES {
+    if word.len() > NAME_BYTES {
         return Lexeme::Refused(Fault::NameLong);
     }
     match fold_word(word) {

@@ -16,5 +16,4 @@ mod tokens;
 pub use bounds::{BRACKETS, OPERATORS};
 pub use law::{gaps_are_blank, longest_match, tokens_are_few, tokens_are_i64};
 pub use lexer::read_tokens;
-pub use lexemes::WORD_BYTES;
 pub use tokens::{Cut, Fault, Keyword, Operator, Sign, Spot, Token, Tokens};
