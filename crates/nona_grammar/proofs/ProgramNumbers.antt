@@ -1,5 +1,5 @@
 -- The numbers of a program are those of its tokens.
-use Rattle.std.proofs.Common.{◌≡◌, ℕ, ◌+◌, ◌^◌, ◌<◌, pos, Bool, List, [], ◌∷◌, arith}
+use Rattle.std.proofs.Common.{ℕ, pos, Bool, List, arith}
 use Rattle.std.specs.List.{AllByRecursion}
 use Rattle.std.proofs.lemmas.List.Elements.{All-from_recursion}
 use denote.Hole.Carrier.{hidden}

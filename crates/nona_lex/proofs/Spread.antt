@@ -1,5 +1,5 @@
 -- The tokens of a text stand in it with blanks and comments between them alone.
-use Rattle.std.proofs.Common.{◌≡◌, ℕ, zero, suc, ◌+◌, ◌-◌, ◌<◌, ◌≤◌, Bool, true, false, nat_lt, pos, ◌==◌, List, [], ◌∷◌, length, take, drop, refl, ap, sym, subst, ◌∙◌, inl, inr, arith, None, Some}
+use Rattle.std.proofs.Common.{◌≡◌, ℕ, zero, suc, ◌+◌, ◌≤◌, Bool, true, false, nat_lt, pos, ◌==◌, List, [], ◌∷◌, length, take, drop, refl, sym, subst, inl, inr, arith, None, Some}
 use Rattle.std.specs.Prelude.{◌⊎◌}
 use Rattle.std.specs.declared.option.Option.{Option}
 use Rattle.std.specs.List.{take_while}
@@ -15,11 +15,10 @@ use Rattle.nona_lex.specs.declared.tokens.Token.{Token}
 use Rattle.nona_lex.specs.declared.tokens.Token.TheVariants as token
 use Rattle.nona_lex.specs.declared.tokens.Fault.TheVariants as fault
 use Rattle.nona_lex.specs.declared.tokens.Cut.{Cut}
-use Rattle.nona_lex.specs.declared.tokens.Spot.{Spot}
 use Rattle.nona_lex.specs.declared.tokens.Tokens.{Tokens}
 use Rattle.nona_lex.specs.Words.{is_letter, is_word_byte, fold_word}
 use Rattle.nona_lex.specs.Signs.{token_of_two, token_of_one}
-use Rattle.nona_lex.specs.Lexis.{lexeme_of, word_token, fold_or_word, word_lexeme, number_lexeme, sign_lexeme, sign_lexeme_of, single_lexeme, begins_with, lexed_from, lexed}
+use Rattle.nona_lex.specs.Lexis.{lexeme_of, fold_or_word, word_lexeme, number_lexeme, sign_lexeme, sign_lexeme_of, single_lexeme, begins_with, lexed_from}
 use Rattle.nona_lex.specs.Bounds.{Counts, no_counts, behind_token, admitted, bounded_from, tokens_of}
 use Rattle.nona_lex.specs.Progress.{FitsIn}
 use Rattle.nona_lex.specs.Spelling.{Spells}

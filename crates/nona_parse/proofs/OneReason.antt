@@ -1,5 +1,5 @@
 -- A text is a program, or it is refused for one reason.
-use Rattle.std.proofs.Common.{◌≡◌, ◌≢◌, ℕ, List, length, [], ◌∷◌, ◌++◌, ap, sym, ◌∙◌, subst, append_assoc, Ok, Err, None, Some, inl, inr, refl}
+use Rattle.std.proofs.Common.{◌≡◌, ℕ, List, length, [], ◌∷◌, ◌++◌, ap, sym, ◌∙◌, subst, append_assoc, Ok, Err, None, Some, inl, inr, refl}
 use Rattle.std.specs.Prelude.{◌⊎◌}
 use Rattle.std.specs.declared.option.Option.{Option}
 use Rattle.std.specs.declared.result.Result.{Result}
@@ -15,7 +15,7 @@ use Rattle.nona_grammar.specs.Machine.{built}
 use Rattle.nona_grammar.specs.Stack.{Trees}
 use Rattle.nona_parse.specs.declared.fault.ParseFault.{ParseFault}
 use Rattle.nona_parse.specs.declared.fault.ParseFault.TheVariants as parse
-use Rattle.nona_parse.specs.Reading.{IsReading, IsRefusal, IsCutAt, IsSyntaxAt, IsSyntaxBefore, IsRefusedFor, IsReadOrRefused}
+use Rattle.nona_parse.specs.Reading.{IsReading, IsCutAt, IsSyntaxAt, IsSyntaxBefore, IsRefusedFor, IsReadOrRefused}
 use Rattle.nona_parse.specs.Steps.{refusal_of}
 use Rattle.nona_parse.proofs.Refusals.{Sound, Exact, whole_front, cut_refused, refused_program}
 
