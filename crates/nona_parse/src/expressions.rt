@@ -2,7 +2,7 @@ ghost use Rattle.std.specs.Prelude.{◌<◌, ◌≤◌, ◌∷◌, [], length, I
 ghost use Rattle.nona_grammar.specs.Levels.{loosest};
 ghost use Rattle.nona_grammar.specs.Stack.{push};
 ghost use Rattle.nona_grammar.specs.Machine.{Primary, Whole, Compare, Level, Tail, Want};
-ghost use Rattle.nona_parse.specs.Steps.{Reads, GoesOn, Fails};
+ghost use Rattle.nona_parse.specs.Steps.{Reads, ReadsBehind, Fails};
 
 use crate::accesses::{array_length, scalar_or_cell};
 use crate::fault::ReadFault;
@@ -34,7 +34,7 @@ pub fn expression(alloc: Global, spots: &[Spot]) -> Result<(Expr, &[Spot]), Read
 fn compared(alloc: Global, first: Expr, spots: &[Spot]) -> Result<(Expr, &[Spot]), ReadFault>
     ensures shorter { IfOk result (λ x. length x.1.now ≤ length spots.now) }
     ensures read { MatchResult result
-        (λ x. GoesOn (Compare ∷ []) (push first) spots.now (push x.0) x.1.now)
+        (λ x. ReadsBehind (Compare ∷ []) (push first) spots.now (push x.0) x.1.now)
         (λ fault. Fails fault (Compare ∷ []) spots.now) }
 {
     match operator_above(LOOSEST, spots) {
@@ -80,7 +80,7 @@ fn joined(
     requires { below < loosest }
     ensures shorter { IfOk result (λ x. length x.1.now ≤ length spots.now) }
     ensures read { MatchResult result
-        (λ x. GoesOn (Tail below ∷ []) (push first) spots.now (push x.0) x.1.now)
+        (λ x. ReadsBehind (Tail below ∷ []) (push first) spots.now (push x.0) x.1.now)
         (λ fault. Fails fault (Tail below ∷ []) spots.now) }
 {
     let mut left = first;
