@@ -30,31 +30,31 @@ rest_of : List Spot → List Spot
 rest_of [] = []
 rest_of (y ∷ ss) = ss
 
-same_first : (x y : Spot) (as bs : List Spot) → (x ∷ as) ≡ (y ∷ bs) → x ≡ y
+same_first : (x y : Spot) (ls bs : List Spot) → (x ∷ ls) ≡ (y ∷ bs) → x ≡ y
 unfolding first_of
-same_first x y as bs is = ap (first_of x) is
+same_first x y ls bs is = ap (first_of x) is
 
-same_rest : (x y : Spot) (as bs : List Spot) → (x ∷ as) ≡ (y ∷ bs) → as ≡ bs
+same_rest : (x y : Spot) (ls bs : List Spot) → (x ∷ ls) ≡ (y ∷ bs) → ls ≡ bs
 unfolding rest_of
-same_rest x y as bs is = ap rest_of is
+same_rest x y ls bs is = ap rest_of is
 
 -- the token where a list stops is one
-stops_once : (kind : List Spot → Type 0) (a b : List Spot) (x y : Spot) (as bs : List Spot) → (a ++ x ∷ as) ≡ (b ++ y ∷ bs)
+stops_once : (kind : List Spot → Type 0) (a b : List Spot) (x y : Spot) (ls bs : List Spot) → (a ++ x ∷ ls) ≡ (b ++ y ∷ bs)
     → IsViable kind a → (IsViable kind (a ++ x ∷ []) → ⊥) → IsViable kind b → (IsViable kind (b ++ y ∷ []) → ⊥) → x ≡ y
-stops_once kind [] [] x y as bs is fa na fb nb = same_first x y as bs is
-stops_once kind [] (t ∷ b) x y as bs is fa na (more, text) nb =
-    absurd (na (b ++ more, subst (λ u. kind (u ∷ (b ++ more))) (sym (same_first x t as (b ++ y ∷ bs) is)) text))
-stops_once kind (s ∷ a) [] x y as bs is (more, text) na fb nb =
-    absurd (nb (a ++ more, subst (λ u. kind (u ∷ (a ++ more))) (same_first s y (a ++ x ∷ as) bs is) text))
-stops_once kind (s ∷ a) (t ∷ b) x y as bs is fa na fb nb =
-    let e : t ≡ s = sym (same_first s t (a ++ x ∷ as) (b ++ y ∷ bs) is) in
+stops_once kind [] [] x y ls bs is fa na fb nb = same_first x y ls bs is
+stops_once kind [] (t ∷ b) x y ls bs is fa na (more, text) nb =
+    absurd (na (b ++ more, subst (λ u. kind (u ∷ (b ++ more))) (sym (same_first x t ls (b ++ y ∷ bs) is)) text))
+stops_once kind (s ∷ a) [] x y ls bs is (more, text) na fb nb =
+    absurd (nb (a ++ more, subst (λ u. kind (u ∷ (a ++ more))) (same_first s y (a ++ x ∷ ls) bs is) text))
+stops_once kind (s ∷ a) (t ∷ b) x y ls bs is fa na fb nb =
+    let e : t ≡ s = sym (same_first s t (a ++ x ∷ ls) (b ++ y ∷ bs) is) in
     let fb' : IsViable kind (s ∷ b) = subst (λ u. IsViable kind (u ∷ b)) e fb in
     let nb' : IsViable kind (s ∷ (b ++ y ∷ [])) → ⊥ = subst (λ u. IsViable kind (u ∷ (b ++ y ∷ [])) → ⊥) e nb in
-    stops_once (λ l. kind (s ∷ l)) a b x y as bs (same_rest s t (a ++ x ∷ as) (b ++ y ∷ bs) is) fa na fb' nb'
+    stops_once (λ l. kind (s ∷ l)) a b x y ls bs (same_rest s t (a ++ x ∷ ls) (b ++ y ∷ bs) is) fa na fb' nb'
 
 same_stop : (ss : List Spot) (f g : ℕ) → StopsAt IsText ss f → StopsAt IsText ss g → f ≡ g
-same_stop ss f g (a, x, as, is, at, front, none) (b, y, bs, is', at', front', none') =
-    at ∙ ap (λ (s : Spot). s.at) (stops_once IsText a b x y as bs (sym is ∙ is') front none front' none') ∙ sym at'
+same_stop ss f g (a, x, ls, is, at, front, none) (b, y, bs, is', at', front', none') =
+    at ∙ ap (λ (s : Spot). s.at) (stops_once IsText a b x y ls bs (sym is ∙ is') front none front' none') ∙ sym at'
 
 -- a list that is the front of a program stops nowhere
 front_goes_on : (ss : List Spot) (at : ℕ) → IsViable IsText ss → StopsAt IsText ss at → ⊥
@@ -125,15 +125,15 @@ syntax_is_reason at e = absurd (cc)
 
 -- at a cut behind the front of a program
 at_cut : (text : List ℕ) (c : Cut) → (tokens_of text).cut ≡ Some c → IsViable IsText (tokens_of text).spots → IsReadOrRefused text
-at_cut text c is front = inr (refusal_of c.fault c.at, cut_is_reason c.fault c.at, cut_refused text c.fault c.at (sym is) front)
+at_cut text c is front = inr (refusal_of c.fault c.at, (cut_is_reason c.fault c.at, cut_refused text c.fault c.at (sym is) front))
 
 -- at a token that fits nowhere
 at_token : (text : List ℕ) (at : ℕ) → IsSyntaxAt text at → IsReadOrRefused text
-at_token text at syntax = inr (parse.Syntax at, syntax_is_reason at, syntax)
+at_token text at syntax = inr (parse.Syntax at, (syntax_is_reason at, syntax))
 
 -- what becomes of tokens, by their cut
 by_program : (text : List ℕ) (o : Option Cut) → (tokens_of text).cut ≡ o → (p : Program) → IsProgram (tokens_of text).spots p → IsReadOrRefused text
-by_program text None is p program = inl (p, is, program)
+by_program text None is p program = inl (p, (is, program))
 by_program text (Some c) is p program = at_cut text c is (whole_front (tokens_of text).spots p program)
 
 by_stop : (text : List ℕ) (o : Option Cut) → (tokens_of text).cut ≡ o → (at : ℕ) → StopsAt IsText (tokens_of text).spots at → IsReadOrRefused text
