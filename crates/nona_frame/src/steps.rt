@@ -119,7 +119,7 @@ fn split<'a>(block: Block<'a>, marks: &Marks) -> Option<(&'a Stmt, Block<'a>)>
             first,
             Block {
                 statements,
-                place: behind(block.place, marks.marks.as_slice()),
+                place: behind(block.place, marks),
             },
         )),
     }
@@ -263,7 +263,7 @@ fn enter_for<'a>(
         Ok(high) => high,
         Err(trap) => return Ok(Step::Ended(Outcome::Trap(trap))),
     };
-    if is_region(here, marks.marks.as_slice()) {
+    if is_region(here, marks) {
         return Ok(Step::Region {
             number: here.first,
             low,
@@ -345,7 +345,7 @@ fn enter<'a>(
                 },
                 no: Block {
                     statements: no.as_slice(),
-                    place: behind(inner, marks.marks.as_slice()),
+                    place: behind(inner, marks),
                 },
             };
             choose(choice, turns, tasks, store)
