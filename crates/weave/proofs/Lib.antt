@@ -1,4 +1,5 @@
 pub mod SeqLaws
+pub mod Counts
 pub mod Sound
 pub mod RunsOut
 pub mod Ends
@@ -6,4 +7,6 @@ pub mod Few
 pub mod Steps
 pub mod Exact
 pub mod Intervals
+pub mod ReplayLaws
 pub mod Asks
+pub mod Agree

@@ -6,8 +6,8 @@ ghost use Rattle.nona_tree.specs.Memory.{cut_to};
 ghost use Rattle.morta_task.specs.Entries.{IsEntered, before, last};
 ghost use Rattle.morta_task.specs.Running.{IsHandoff};
 ghost use Rattle.weave.specs.Machines.{RunsOut, step_times as stepped_times};
-ghost use Rattle.weave.specs.SeqNet.{seq_machine, begun_net, claimed, step_at, moved, is_finished as has_finished, ran_of, cut_of as cut_by};
-ghost use Rattle.weave.specs.declared.net.Place.TheVariants as place;
+ghost use Rattle.weave.specs.SeqNet.{seq_machine, begun_net, claimed, step_at, moved, is_finished as has_finished, ran_of};
+ghost use Rattle.weave.specs.declared.net.Position.TheVariants as place;
 ghost use Rattle.weave.specs.Net.{place_before, store_before, stand_of, IsPlace, net_of, IsSet, IsNet};
 
 use morta_task::{Cut, Entry, Handoff, Ran, Work};
@@ -19,7 +19,7 @@ use std::alloc::AllocError;
 
 /// Where the task stands.
 #[derive(Clone, Copy)]
-pub enum Place {
+pub enum Position {
     /// Before a claim.
     Claims,
     /// Before the unit of its iteration that has this number, from 0.
@@ -42,7 +42,7 @@ pub struct Net<'a> {
     limit: u64,
     granted: u64,
     paused: bool,
-    place: Place,
+    place: Position,
     store: Store,
     /// How the last iteration ended.
     end: Outcome,
@@ -60,33 +60,16 @@ fn cut(depth: usize, store: &mut Store)
 
 /// The place before the unit with this number. Behind the last one it is that before a claim, and the scalars behind the
 /// first `depth` go.
-fn arrive(units: &[Stmt], at: usize, depth: usize, store: &mut Store) -> Place
+fn arrive(units: &[Stmt], at: usize, depth: usize, store: &mut Store) -> Position
     ensures place { stand_of units.now result ≡ place_before (drop at units.now) }
     ensures store { store.new ≡ store_before depth (drop at units.now) store.old }
     ensures number { IsPlace units.now result }
 {
     if at < units.len() {
-        Place::Unit(at)
+        Position::Unit(at)
     } else {
         cut(depth, store);
-        Place::Claims
-    }
-}
-
-/// Why an interval ended with this end, where so many iterations were granted.
-fn cut_of(end: Outcome, granted: u64, limit: u64) -> Cut
-    ensures { result ≡ cut_by end granted limit }
-{
-    match end {
-        Outcome::Done => {
-            if granted < limit {
-                Cut::Paused
-            } else {
-                Cut::Limit
-            }
-        }
-        Outcome::Trap(trap) => Cut::Trap(trap),
-        Outcome::OutOfTurns { at } => Cut::Turns { at },
+        Position::Claims
     }
 }
 
@@ -112,7 +95,7 @@ impl<'a> Net<'a> {
             limit,
             granted: 0,
             paused: false,
-            place: Place::Claims,
+            place: Position::Claims,
             store,
             end: Outcome::Done,
             moves: 0,
@@ -124,7 +107,7 @@ impl<'a> Net<'a> {
         ensures { result ≡ has_finished (net_of self.now).place }
     {
         match self.place {
-            Place::Finished => true,
+            Position::Finished => true,
             _ => false,
         }
     }
@@ -145,7 +128,7 @@ impl<'a> Net<'a> {
         ensures set { OnOk result (IsSet self.new) }
     {
         if self.paused || self.granted >= self.limit {
-            self.place = Place::Finished;
+            self.place = Position::Finished;
             return Ok(());
         }
         let index = offset(self.from, self.granted);
@@ -170,7 +153,7 @@ impl<'a> Net<'a> {
             end => {
                 cut(self.depth, &mut self.store);
                 self.end = end;
-                self.place = Place::Finished;
+                self.place = Position::Finished;
             }
         }
         Ok(())
@@ -183,9 +166,9 @@ impl<'a> Net<'a> {
         ensures set { OnOk result (IsSet self.new) }
     {
         match self.place {
-            Place::Claims => self.claim(),
-            Place::Unit(at) => self.do_unit(at),
-            Place::Finished => Ok(()),
+            Position::Claims => self.claim(),
+            Position::Unit(at) => self.do_unit(at),
+            Position::Finished => Ok(()),
         }
     }
 
@@ -244,7 +227,7 @@ impl<'a> Net<'a> {
                 waits: 0,
             }),
             ticks: self.moves,
-            cut: cut_of(self.end, self.granted, self.limit),
+            cut: Cut::of(self.end, self.granted, self.limit),
         };
         let handoff = Handoff {
             next: to,
