@@ -1,21 +1,20 @@
 -- Two logs of one replay agree.
-use Rattle.std.proofs.Common.{◌≡◌, ◌<◌, ◌≤◌, ◌+◌, ◌-◌, ◌⊎◌, inl, inr, ℕ, ℤ, zero, suc, true, false, List, [], ◌∷◌, ◌++◌, length, take, drop, refl, sym, ap, subst, ◌∙◌, arith, Option, None, Some, slice_get, append_assoc}
+use Rattle.std.proofs.Common.{◌≡◌, ◌<◌, ◌≤◌, ◌-◌, inl, inr, ℕ, ℤ, true, false, List, [], ◌∷◌, ◌++◌, length, take, drop, refl, sym, ap, subst, ◌∙◌, arith, Option, None, Some, slice_get, append_assoc}
 use Rattle.std.proofs.lemmas.List.{take-append-drop, append-nil}
 use Rattle.morta_task.specs.declared.schemes.Scheme.{Scheme}
 use Rattle.morta_task.specs.declared.schemes.Scheme.TheVariants.{Seq, Any, Pipe}
-use Rattle.morta_task.specs.declared.schemes.Config.{Config}
 use Rattle.morta_task.specs.declared.schemes.Ask.{Ask}
 use Rattle.morta_task.specs.declared.intervals.Interval.{Interval}
 use Rattle.morta_task.specs.declared.intervals.Ran.{Ran}
 use Rattle.morta_task.specs.Entries.{EntryView, before, last}
-use Rattle.morta_task.specs.Legal.{last_in, begun, log_of, EachFrom, IsClosed, Continues, Begins, ComesNext, IsLegal, EndsAll}
+use Rattle.morta_task.specs.Legal.{last_in, begun, log_of, EachFrom, IsClosed, Continues, ComesNext, IsLegal, EndsAll}
 use Rattle.morta_task.specs.LogView.{LogView}
 use Rattle.morta_task.specs.Running.{chosen, limit_of}
 use Rattle.weave.specs.declared.script.Command.{Command}
 use Rattle.weave.specs.Machines.{Machine, is_over, round, RunsOut, at_end, one_round}
-use Rattle.weave.specs.SeqNet.{SeqNet, seq_machine, ran_of}
+use Rattle.weave.specs.SeqNet.{seq_machine, ran_of}
 use Rattle.weave.specs.Replay.{behind_use, left_behind, IsReplayedIn, IsReplayed, IsDriven, AreDriven, IsReplay}
-use Rattle.weave.proofs.ReplayLaws.{Grown, grown}
+use Rattle.weave.specs.ReplayLaws.{Grown, grown}
 
 ends_here : {N : Type 0} (machine : Machine N) (net end : N) → RunsOut machine net end → is_over machine net ≡ true → end ≡ net
 ends_here machine _ _ (at_end net ended) over = refl
@@ -39,7 +38,7 @@ replayed_in_once Any workers capacity e from limit commands one other h k = absu
 replayed_in_once Pipe workers capacity e from limit commands one other h k = absurd h
 
 -- what an option has, or the other one
-or_else : EntryView → Option EntryView → EntryView
+abbrev or_else : EntryView → Option EntryView → EntryView
 or_else other None = other
 or_else other (Some e) = e
 
@@ -130,7 +129,7 @@ agree asks capacity es front commands (x ∷ xs) (y ∷ ys) b d short =
     let same = first_same asks capacity es front commands x y xs ys b d in
     let d' : Both asks capacity es front commands (x ∷ ys) = subst (λ (z : Interval). Both asks capacity es front commands (z ∷ ys)) (sym same) d in
     let rest = agree asks capacity es (front ++ x ∷ []) (left_behind capacity (slice_get es (x.entry - 1)) x commands) xs ys
-        (onward asks capacity es front commands x xs b) (onward asks capacity es front commands x ys d') (omega (arith, short)) in
+    (onward asks capacity es front commands x xs b) (onward asks capacity es front commands x ys d') (omega (arith, short)) in
     λ k. same k ∷ rest k
 
 -- an index behind a list
@@ -166,9 +165,9 @@ all_same asks capacity es front commands (x ∷ xs) (y ∷ ys) b d whole whole' 
     let d' : Both asks capacity es front commands (x ∷ ys) = subst (λ (z : Interval). Both asks capacity es front commands (z ∷ ys)) (sym same) d in
     let ends' : EndsAll es (last_in (front ++ x ∷ ys)) = subst (λ (z : Interval). EndsAll es (last_in (front ++ z ∷ ys))) (sym same) whole' in
     let rest = all_same asks capacity es (front ++ x ∷ []) (left_behind capacity (slice_get es (x.entry - 1)) x commands) xs ys
-        (onward asks capacity es front commands x xs b) (onward asks capacity es front commands x ys d')
-        (subst (λ (is : List Interval). EndsAll es (last_in is)) (sym (append_assoc front (x ∷ []) xs)) whole)
-        (subst (λ (is : List Interval). EndsAll es (last_in is)) (sym (append_assoc front (x ∷ []) ys)) ends') in
+    (onward asks capacity es front commands x xs b) (onward asks capacity es front commands x ys d')
+    (subst (λ (is : List Interval). EndsAll es (last_in is)) (sym (append_assoc front (x ∷ []) xs)) whole)
+    (subst (λ (is : List Interval). EndsAll es (last_in is)) (sym (append_assoc front (x ∷ []) ys)) ends') in
     λ k. same k ∷ rest k
 
 -- a replay over all entries of the run

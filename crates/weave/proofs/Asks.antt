@@ -1,8 +1,6 @@
 -- What a replay asks for, and what it has then run.
 use Rattle.std.proofs.Common.{◌≡◌, ◌+◌, ℕ, ℤ, List, [], ◌∷◌, get_or, refl, sym, ap, subst, ◌∙◌, arith}
 use Rattle.std.proofs.lemmas.List.{get_or-drop}
-use Rattle.morta_task.specs.declared.schemes.Scheme.{Scheme}
-use Rattle.morta_task.specs.declared.schemes.Scheme.TheVariants.{Seq}
 use Rattle.morta_task.specs.declared.schemes.Config.{Config}
 use Rattle.morta_task.specs.declared.schemes.Ask.{Ask}
 use Rattle.morta_task.specs.declared.intervals.Ran.{Ran}
@@ -75,7 +73,7 @@ goes_on old new e config from limit done replayed is =
           let before = behind_use (left_at old.capacity old.script log) in
           let there : IsReplayed old.capacity config e from (limit_of e from ask.until) before done =
           subst (λ (l : ℕ). IsReplayed old.capacity config e from l before done) limit_is
-              (subst (λ (cs : List Command). IsReplayed old.capacity config e from limit cs done) asked.left replayed) in
+          (subst (λ (cs : List Command). IsReplayed old.capacity config e from limit cs done) asked.left replayed) in
           record {
             hand = asked.hand;
             number = refl;

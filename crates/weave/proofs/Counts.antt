@@ -1,5 +1,5 @@
 -- How often the task of an interval under `seq` has moved.
-use Rattle.std.proofs.Common.{◌≡◌, ◌<◌, ◌≤◌, ◌+◌, ◌-◌, ◌*◌, ℕ, suc, pos, ◌+ℤ◌, Bool, true, false, List, [], ◌∷◌, length, refl, sym, ap, subst, ◌∙◌, arith, if◌then◌else◌}
+use Rattle.std.proofs.Common.{◌≡◌, ◌<◌, ◌≤◌, ◌+◌, ◌-◌, ◌*◌, ℕ, suc, pos, ◌+ℤ◌, Bool, true, false, List, [], ◌∷◌, length, sym, ap, subst, ◌∙◌, arith, if◌then◌else◌}
 use Rattle.nona_tree.specs.declared.outcomes.Outcome.{Outcome}
 use Rattle.nona_tree.specs.declared.outcomes.Outcome.TheVariants as outcome
 use Rattle.nona_tree.specs.declared.trees.Stmt.{Stmt}
@@ -7,7 +7,7 @@ use Rattle.nona_tree.specs.Memory.{Memory, declare}
 use Rattle.nona_tree.specs.Run.{run}
 use Rattle.morta_task.specs.Entries.{EntryView}
 use Rattle.weave.specs.SeqNet.{SeqNet, Stand, Claims, Unit_of, Finished, at_units, is_granted, behind_unit, step_at, moved, is_finished, begun_net}
-use Rattle.weave.specs.SeqState.{StopsWithin, HasEndedAfter, HasMovedAt, HasMoved}
+use Rattle.weave.specs.SeqState.{HasEndedAfter, HasMovedAt, HasMoved}
 
 -- one iteration more
 pub one_more : (granted units : ℕ) → granted ≡ suc (granted - 1) → granted * (units + 1) ≡ (granted - 1) * (units + 1) + (units + 1)

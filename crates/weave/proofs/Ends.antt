@@ -1,5 +1,5 @@
 -- What an interval under `seq` did whose machine has run out.
-use Rattle.std.proofs.Common.{◌≡◌, ◌≤◌, ◌+◌, ◌-◌, ◌*◌, ◌<◌, ◌⊎◌, ℕ, suc, ℤ, pos, negsuc, ◌+ℤ◌, Bool, true, false, List, length, refl, sym, ap, subst, subst₂, ◌∙◌, arith, inl, inr, nat_lt, min, FitsSigned, if◌then◌else◌}
+use Rattle.std.proofs.Common.{◌≡◌, ◌≤◌, ◌+◌, ◌-◌, ◌*◌, ◌⊎◌, ℕ, suc, ℤ, pos, negsuc, ◌+ℤ◌, Bool, true, false, List, length, refl, sym, ap, subst, subst₂, ◌∙◌, arith, inl, inr, nat_lt, min, FitsSigned, if◌then◌else◌}
 use Rattle.std.proofs.lemmas.Int.{ints}
 use Rattle.std.specs.Int.{w64, int_gap}
 use Rattle.nona_tree.specs.declared.outcomes.Outcome.{Outcome}

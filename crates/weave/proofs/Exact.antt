@@ -1,5 +1,5 @@
 -- How often the task of an interval under `seq` has moved, whatever it was asked to do.
-use Rattle.std.proofs.Common.{◌≡◌, ◌≢◌, ◌≤◌, ◌+◌, ◌-◌, ◌*◌, ℕ, pos, ◌+ℤ◌, Bool, true, false, List, [], ◌∷◌, length, refl, sym, ap, subst, ◌∙◌, arith, if◌then◌else◌}
+use Rattle.std.proofs.Common.{◌≡◌, ◌≤◌, ◌+◌, ℕ, pos, ◌+ℤ◌, Bool, true, false, List, [], ◌∷◌, length, refl, subst, ◌∙◌, arith, if◌then◌else◌}
 use Rattle.nona_tree.specs.declared.outcomes.Outcome.{Outcome}
 use Rattle.nona_tree.specs.declared.outcomes.Outcome.TheVariants as outcome
 use Rattle.nona_tree.specs.declared.trees.Stmt.{Stmt}
@@ -9,8 +9,8 @@ use Rattle.morta_task.specs.Entries.{EntryView}
 use Rattle.weave.specs.declared.script.Command.{Command}
 use Rattle.weave.specs.Machines.{RunsOut}
 use Rattle.weave.specs.Following.{follow}
-use Rattle.weave.specs.SeqNet.{SeqNet, Stand, Claims, Unit_of, Finished, at_units, is_granted, behind_unit, step_at, moved, is_finished, seq_machine, begun_net}
-use Rattle.weave.specs.SeqState.{StopsWithin, HasEndedAfter, HasMovedAt, HasMoved}
+use Rattle.weave.specs.SeqNet.{SeqNet, Stand, Claims, Unit_of, Finished, at_units, is_granted, behind_unit, step_at, is_finished, seq_machine, begun_net}
+use Rattle.weave.specs.SeqState.{HasEndedAfter, HasMovedAt, HasMoved}
 use Rattle.weave.proofs.Counts.{counted_moved, counted_begun}
 use Rattle.weave.proofs.RunsOut.{Kept, KeptOnStep, kept_follow, kept_out, out_is_over}
 
@@ -34,10 +34,20 @@ record Kind (e : EntryView) (limit : ℕ) (paused : Bool) (net : SeqNet) : Type 
 
 kind_before : (e : EntryView) (limit : ℕ) (paused : Bool) (units : List Stmt) (net : SeqNet) → Going e limit paused net → Kind e limit paused (at_units units net)
 kind_before e limit paused [] net o = record {
-  entry = o.entry; limit_is = o.limit_is; paused_is = o.paused_is; within = o.within; going = λ _. o.finished; all = λ _ _ f. cc;
+  entry = o.entry;
+  limit_is = o.limit_is;
+  paused_is = o.paused_is;
+  within = o.within;
+  going = λ _. o.finished;
+  all = λ _ _ f. cc;
 }
 kind_before e limit paused (s ∷ rest) net o = record {
-  entry = o.entry; limit_is = o.limit_is; paused_is = o.paused_is; within = o.within; going = λ _. o.finished; all = λ _ _ f. cc;
+  entry = o.entry;
+  limit_is = o.limit_is;
+  paused_is = o.paused_is;
+  within = o.within;
+  going = λ _. o.finished;
+  all = λ _ _ f. cc;
 }
 
 all_granted : (net : SeqNet) → is_granted net ≡ false → net.paused ≡ false → net.granted ≤ net.limit → net.granted ≡ net.limit
@@ -67,10 +77,20 @@ kind_unit outcome.Done e limit paused rest m net o =
     kind_before e limit paused rest (record net { store = m })
     (record { entry = o.entry; limit_is = o.limit_is; paused_is = o.paused_is; within = o.within; finished = o.finished })
 kind_unit (outcome.Trap t) e limit paused rest m net o = record {
-  entry = o.entry; limit_is = o.limit_is; paused_is = o.paused_is; within = o.within; going = λ f. cc; all = λ _ f _. cc;
+  entry = o.entry;
+  limit_is = o.limit_is;
+  paused_is = o.paused_is;
+  within = o.within;
+  going = λ f. cc;
+  all = λ _ f _. cc;
 }
 kind_unit (outcome.OutOfTurns at) e limit paused rest m net o = record {
-  entry = o.entry; limit_is = o.limit_is; paused_is = o.paused_is; within = o.within; going = λ f. cc; all = λ _ f _. cc;
+  entry = o.entry;
+  limit_is = o.limit_is;
+  paused_is = o.paused_is;
+  within = o.within;
+  going = λ f. cc;
+  all = λ _ f _. cc;
 }
 
 kind_at : (p : Stand) (e : EntryView) (limit : ℕ) (paused : Bool) (net : SeqNet) → is_finished p ≡ false → Going e limit paused net
@@ -88,7 +108,12 @@ kind_step e limit paused net going x =
 
 kind_begun : (e : EntryView) (before limit : ℕ) (m : Memory) → Kind e limit false (begun_net e before limit m)
 kind_begun e before limit m = record {
-  entry = refl; limit_is = refl; paused_is = refl; within = omega arith; going = λ _. refl; all = λ _ _ f. cc;
+  entry = refl;
+  limit_is = refl;
+  paused_is = refl;
+  within = omega arith;
+  going = λ _. refl;
+  all = λ _ _ f. cc;
 }
 
 -- an interval without commands whose iterations are done has granted all
@@ -118,7 +143,12 @@ counted_kept e = record {
     paused = true;
     limit = x.limit;
     kind = record {
-      entry = x.kind.entry; limit_is = x.kind.limit_is; paused_is = refl; within = x.kind.within; going = x.kind.going; all = λ f _ _. cc;
+      entry = x.kind.entry;
+      limit_is = x.kind.limit_is;
+      paused_is = refl;
+      within = x.kind.within;
+      going = x.kind.going;
+      all = λ f _ _. cc;
     };
     moves = x.moves;
   };

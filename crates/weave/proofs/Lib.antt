@@ -7,6 +7,5 @@ pub mod Few
 pub mod Steps
 pub mod Exact
 pub mod Intervals
-pub mod ReplayLaws
 pub mod Asks
 pub mod Agree

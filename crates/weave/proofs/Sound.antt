@@ -1,5 +1,5 @@
 -- Each step keeps what the machine of an interval under `seq` has.
-use Rattle.std.proofs.Common.{◌≡◌, ◌≤◌, ◌+◌, ◌-◌, ◌*◌, ℕ, pos, ◌+ℤ◌, Bool, true, false, List, [], ◌∷◌, length, refl, ap, subst, ◌∙◌, arith, if◌then◌else◌}
+use Rattle.std.proofs.Common.{◌≡◌, ◌≤◌, ◌+◌, ◌-◌, ℕ, pos, ◌+ℤ◌, Bool, true, false, List, [], ◌∷◌, refl, ap, subst, ◌∙◌, arith, if◌then◌else◌}
 use Rattle.nona_tree.specs.declared.outcomes.Outcome.{Outcome}
 use Rattle.nona_tree.specs.declared.outcomes.Outcome.TheVariants as outcome
 use Rattle.nona_tree.specs.declared.trees.Stmt.{Stmt}

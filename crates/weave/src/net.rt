@@ -2,7 +2,6 @@
 
 ghost use Rattle.std.specs.Prelude.{◌≡◌, ◌≤◌, drop, false, OnOk};
 ghost use Rattle.std.specs.Int.{int_gap};
-ghost use Rattle.nona_tree.specs.Memory.{cut_to};
 ghost use Rattle.morta_task.specs.Entries.{IsEntered, before, last};
 ghost use Rattle.morta_task.specs.Running.{IsHandoff};
 ghost use Rattle.weave.specs.Machines.{RunsOut, step_times as stepped_times};
@@ -14,7 +13,7 @@ use morta_task::{Cut, Entry, Handoff, Ran, Work};
 use nona_num::offset;
 use nona_store::Store;
 use nona_tree::{Loop, Outcome, Stmt};
-use nona_walk::walk;
+use nona_walk::{leave, walk};
 use std::alloc::AllocError;
 
 /// Where the task stands.
@@ -50,14 +49,6 @@ pub struct Net<'a> {
     moves: u64,
 }
 
-/// Cuts off the scalars behind the first `depth`.
-fn cut(depth: usize, store: &mut Store)
-    ensures { store.new ≡ cut_to depth store.old }
-{
-    let behind = store.depth().saturating_sub(depth);
-    store.cut_scalars(behind);
-}
-
 /// The place before the unit with this number. Behind the last one it is that before a claim, and the scalars behind the
 /// first `depth` go.
 fn arrive(units: &[Stmt], at: usize, depth: usize, store: &mut Store) -> Position
@@ -68,7 +59,7 @@ fn arrive(units: &[Stmt], at: usize, depth: usize, store: &mut Store) -> Positio
     if at < units.len() {
         Position::Unit(at)
     } else {
-        cut(depth, store);
+        leave(depth, store);
         Position::Claims
     }
 }
@@ -151,7 +142,7 @@ impl<'a> Net<'a> {
                 self.place = arrive(self.units, at + 1, self.depth, &mut self.store);
             }
             end => {
-                cut(self.depth, &mut self.store);
+                leave(self.depth, &mut self.store);
                 self.end = end;
                 self.place = Position::Finished;
             }

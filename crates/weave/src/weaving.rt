@@ -9,7 +9,7 @@ ghost use Rattle.weave.specs.Following.{AreCommands};
 ghost use Rattle.weave.specs.Replay.{commands_left, IsReplayed};
 ghost use Rattle.weave.specs.Asking.{IsNoUse, IsUseAt};
 ghost use Rattle.weave.specs.WeavePromise.{weave_promise};
-ghost use Rattle.weave.proofs.ReplayLaws.{led_by_any, runs_on};
+ghost use Rattle.weave.specs.ReplayLaws.{led_by_any, runs_on};
 
 use crate::following::follow;
 use crate::net::Net;
@@ -117,7 +117,7 @@ impl Morta for Weave {
 }
 
 impl Runner for Weave {
-    ghost runs_only = { λ w log h. h.1 };
+    ghost runs_only = { λ w log h. h.replay };
 
     ghost led = { record { by_any = λ w log e from ask led hand h. led_by_any w log e led hand h; untold = λ w log e i led h. runs_on w log e i h } };
 
@@ -136,7 +136,7 @@ impl Runner for Weave {
 }
 
 impl Asker for Weave {
-    ghost stands_only = { λ w log h. h.1 };
+    ghost stands_only = { λ w log h. h.replay };
 
     ghost asks_alone = { λ w log e from ask i alone h is. absurd alone };
 

@@ -1,4 +1,4 @@
-use Rattle.weave.proofs.ReplayLaws.{runs_on}
+use Rattle.weave.specs.ReplayLaws.{runs_on}
 use Rattle.weave.proofs.weaving.WeaveAsker.told.Goals as goal
 
 pub returns-clause-stands : goal.returns-clause-stands

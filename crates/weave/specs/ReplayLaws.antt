@@ -1,4 +1,5 @@
--- One more interval of a replay.
+-- One more interval of a replay. These proofs stand here and not in proofs/, since the laws of a trait's impl cite them, and a
+-- source file may cite nothing of its own crate but specs/.
 use Rattle.std.proofs.Common.{◌≡◌, ◌-◌, ◌==◌, ℕ, ℤ, zero, suc, Bool, true, false, List, [], ◌∷◌, ◌++◌, length, refl, sym, ap, subst, ◌∙◌, arith, Option, None, Some, slice_get, if◌then◌else◌, eq-eqb, length-append}
 use Rattle.morta_task.specs.declared.schemes.Scheme.{Scheme}
 use Rattle.morta_task.specs.declared.schemes.Scheme.TheVariants.{Seq, Any, Pipe}
@@ -8,7 +9,7 @@ use Rattle.morta_task.specs.Entries.{EntryView}
 use Rattle.morta_task.specs.LogView.{LogView, with_interval, IsAtHand, last_one, next_one}
 use Rattle.morta_task.specs.Running.{limit_of, seq_one}
 use Rattle.weave.specs.declared.script.Command.{Command}
-use Rattle.weave.specs.Replay.{behind_use, commands_left_in, left_behind, left_after, left_at, next_request, current_after, current_at, IsReplayed, IsDriven, AreDriven, IsReplayOf}
+use Rattle.weave.specs.Replay.{behind_use, commands_left_in, left_behind, left_after, left_at, next_request, current_after, current_at, IsReplayed, IsDriven, AreDriven}
 use Rattle.weave.specs.WeaveView.{WeaveView}
 use Rattle.weave.specs.WeavePromise.{StandsFor, HasAsked, HasRun}
 
@@ -105,7 +106,7 @@ runs_on w log e i h =
     let capacity = w.capacity in
     let g : Grown capacity log.entries new log.intervals w.script =
     subst (λ (es : List EntryView). Grown capacity log.entries es log.intervals w.script) (sym f.entries)
-        (grown capacity log.entries f.more log.intervals w.script h.replay) in
+    (grown capacity log.entries f.more log.intervals w.script h.replay) in
     let found : slice_get new (i.entry - 1) ≡ Some e = ap (λ (k : ℕ). slice_get new (k - 1)) h.number ∙ f.found in
     let before = left_after capacity new log.intervals w.script in
     let last : IsDriven capacity new before i =
@@ -115,7 +116,7 @@ runs_on w log e i h =
     ∙ ap (λ (o : Option EntryView). left_behind capacity o i before) found
     ∙ ap (left_behind capacity (Some e) i) g.left in
     let current : current_at capacity w.script (with_interval log e i)
-        ≡ (next_request (left_at capacity w.script log) (current_at capacity w.script log)).config =
+    ≡ (next_request (left_at capacity w.script log) (current_at capacity w.script log)).config =
     current_snoc capacity new log.intervals i w.script seq_one
     ∙ (λ k. (next_request (g.left k) (g.current seq_one k)).config) in
     record {
