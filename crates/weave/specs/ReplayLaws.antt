@@ -80,7 +80,8 @@ append_none (x ∷ es) = ap (λ (rest : List EntryView). x ∷ rest) (append_non
 -- so it is at each of the two places of the entry at hand
 found_in : (log : LogView) (e : EntryView) (i : Interval) → IsAtHand log e → Found log.entries (with_interval log e i).entries e
 found_in log e i (last_one front is number) =
-    let there : (length log.entries == e.number) ≡ true = eq-eqb (length log.entries) e.number (ap length is ∙ omega (arith, length-append front (e ∷ []), number)) in
+    let there : (length log.entries == e.number) ≡ true =
+    eq-eqb (length log.entries) e.number (ap length is ∙ omega (arith, length-append front (e ∷ []), number)) in
     let same : (with_interval log e i).entries ≡ log.entries = ap (λ (b : Bool). if b then log.entries else log.entries ++ e ∷ []) there in
     let back : e.number - 1 ≡ length front = omega (arith, number) in
     record {
@@ -110,7 +111,8 @@ runs_on w log e i h =
     let found : slice_get new (i.entry - 1) ≡ Some e = ap (λ (k : ℕ). slice_get new (k - 1)) h.number ∙ f.found in
     let before = left_after capacity new log.intervals w.script in
     let last : IsDriven capacity new before i =
-    (e, found, subst (λ (cs : List Command). IsReplayed capacity i.ran e i.from (limit_of e i.from i.asked.until) (behind_use cs) i.done) (sym g.left) h.replayed) in
+    (e, found,
+    subst (λ (cs : List Command). IsReplayed capacity i.ran e i.from (limit_of e i.from i.asked.until) (behind_use cs) i.done) (sym g.left) h.replayed) in
     let left : left_at capacity w.script (with_interval log e i) ≡ left_behind capacity (Some e) i (left_at capacity w.script log) =
     left_snoc capacity new log.intervals i w.script
     ∙ ap (λ (o : Option EntryView). left_behind capacity o i before) found
