@@ -1,21 +1,16 @@
--- What is true of the log of a run, and of the place that the run has come to.
-use Rattle.std.specs.Prelude.{◌≡◌, ◌⊎◌, ℕ, ◌-◌, ◌^◌, Bool, true, IsTrue, ℤ, List, [], length, None, Some, slice_get}
+-- What is true of the log of a run.
+use Rattle.std.specs.Prelude.{◌≡◌, ◌⊎◌, ℕ, ◌-◌, Bool, true, IsTrue, List, [], length, None, Some, slice_get}
 use Rattle.std.specs.declared.option.Option.{Option}
 use Rattle.nona_tree.specs.declared.plans.Plan.{Plan}
-use Rattle.nona_tree.specs.Memory.{Memory}
 use Rattle.morta_task.specs.declared.regions.RegionCode.{RegionCode}
 use Rattle.morta_task.specs.declared.schemes.Scheme.{Scheme}
 use Rattle.morta_task.specs.declared.schemes.Scheme.TheVariants.{Seq, Any, Pipe}
 use Rattle.morta_task.specs.declared.intervals.Interval.{Interval}
 use Rattle.morta_task.specs.ImageView.{ImageView}
-use Rattle.morta_task.specs.Entries.{EntryView, has_stages, before, state_after}
+use Rattle.morta_task.specs.Entries.{EntryView, has_stages}
 use Rattle.morta_task.specs.LogView.{LogView}
 use Rattle.morta_task.specs.Promise.{Promise}
-use Rattle.morta_task.specs.Legal.{IsLegalLog, EachFrom, last_in, begun, IsClosed, ComesNext, EndsAll}
-
--- the most intervals that a log has
-abbrev pub most : ℕ
-most = 2 ^ 20
+use Rattle.morta_task.specs.Legal.{IsLegalLog, EachFrom}
 
 -- whether a plan has a version
 abbrev pub has : Plan → Scheme → Bool
@@ -45,24 +40,3 @@ pub record LogStands {M : Type 0} (promise : Promise M) (es : List EntryView) (f
   pub meets : EachFrom (Meets promise first es) [] log.intervals
   pub ticks : AreTold (promise.ticks_to_come first) log.intervals
   pub relation : promise.log_relation first log
-
--- the last interval, where there is one, ends its entry, and nothing keeps the run from going on
-abbrev pub ClosedBy : List EntryView → Option Interval → Type 0
-ClosedBy es None = Unit {0}
-ClosedBy es (Some i) = IsClosed es i
-
--- A place that a run comes to behind the intervals of a log, with its store: behind the last interval; where the entry
--- begins that comes next; or at the end of the run, where none comes.
-pub data IsBehind (es : List EntryView) (end : Memory) (is : List Interval) : Memory → Type 0 where
-  after_interval : (i : Interval) (e : EntryView) → last_in is ≡ Some i → slice_get es (i.entry - 1) ≡ Some e
-      → IsBehind es end is (state_after e (before e i.done.to)).store
-  before_entry : (e : EntryView) → ClosedBy es (last_in is) → slice_get es (begun is) ≡ Some e → IsBehind es end is e.store
-  at_end : EndsAll es (last_in is) → IsBehind es end is end
-
--- The store where the next interval would start: in an entry that was begun, or at the low of the next one.
-pub record StartsNext (es : List EntryView) (is : List Interval) (m : Memory) : Type 0 where
-  pub entry : EntryView
-  pub named : slice_get es (entry.number - 1) ≡ Some entry
-  pub from : ℤ
-  pub next : ComesNext es (last_in is) entry from
-  pub store : m ≡ (state_after entry (before entry from)).store

@@ -1,13 +1,13 @@
 //! One interval: asked for, run, logged and told.
 ghost use Rattle.std.specs.Prelude.{◌≡◌, length, IfOk, OnOk, OnErr};
-ghost use Rattle.morta_task.specs.Entries.{entries_of, IsWithin};
 ghost use Rattle.morta_task.specs.LogView.{with_interval};
 ghost use Rattle.morta_task.specs.Running.{chosen, limit_of};
-ghost use Rattle.morta_exec.specs.Course.{ServesAll};
-ghost use Rattle.morta_exec.specs.Standing.{Stands, IsOfRun, KeptFor, StandsAt, HasTurned};
+ghost use Rattle.morta_exec.specs.Began.{began};
+ghost use Rattle.morta_exec.specs.Log.{ServesAll};
+ghost use Rattle.morta_exec.specs.Standing.{Stands, IsOfRun, KeptFor, StandsAt, HasRunInterval};
 
-use crate::start::Start;
-use morta_task::{Asker, Config, Entry, Handoff, Image, Interval, Log, Runner};
+use crate::start::{Pending, Start};
+use morta_task::{Asker, Config, Entry, Handoff, Interval, Log, Runner};
 use nona_num::gap;
 use std::alloc::AllocError;
 
@@ -51,27 +51,26 @@ fn note(
 }
 
 /// Runs the next interval of an entry, as it is asked for, logs it, and tells of it.
-pub fn turn<M: Runner + Asker, K>(
-    image: &Image,
-    start: &Start<M, K>,
+pub fn run_interval<M: Runner + Asker, K>(
+    start: &Start<'_, M, K>,
     entry: &Entry,
-    kept: Option<Entry>,
-    handoff: Handoff,
+    pending: Pending,
     morta: &mut M,
     log: &mut Log,
 ) -> Result<(Handoff, Interval), AllocError>
-    requires serves { ServesAll M.promise start.now.morta.value image.now }
-    requires entry { IsOfRun image.now (entries_of image.now start.now.turns start.now.store.value) entry.now }
-    requires stands { StandsAt M.promise (entries_of image.now start.now.turns start.now.store.value) start.now.morta.value morta.old entry.now kept log.old handoff }
-    ensures stands { OnOk result (Stands M.promise (entries_of image.now start.now.turns start.now.store.value) start.now.morta.value morta.new log.new) }
-    ensures turned { IfOk result (λ r. HasTurned entry.now handoff.next log.old log.new r.0 r.1) }
+    requires serves { ServesAll M.promise start.now.morta.value start.now.image.now }
+    requires entry { IsOfRun (began start.now) entry.now }
+    requires stands { StandsAt M.promise (began start.now) morta.old entry.now log.old pending }
+    ensures stands { OnOk result (Stands M.promise (began start.now) morta.new log.new) }
+    ensures ran { IfOk result (λ r. HasRunInterval entry.now pending.handoff.next log.old log.new r.0 r.1) }
     ensures err { OnErr result (log.new ≡ log.old) }
 {
+    let Pending { kept, handoff } = pending;
     let from = handoff.next;
     let asked = morta.ask(entry, from);
     let ran = choose(entry, asked.config);
     let limit = limit_for(entry, from, asked.until);
-    let (handoff, done) = morta.interval(image, entry, handoff, ran, limit)?;
+    let (handoff, done) = morta.interval(start.image, entry, handoff, ran, limit)?;
     let interval = Interval {
         entry: entry.number(),
         asked,
