@@ -113,11 +113,7 @@ fn mark_statement(
 
 /// The same of what stands in the statement, without a mark of its own.
 #[cycle(mark)]
-fn mark_inside(
-    s: &Stmt,
-    regions: &BTreeSet<u32>,
-    marks: &mut Vec<Mark>,
-) -> Result<u32, AllocError>
+fn mark_inside(s: &Stmt, regions: &BTreeSet<u32>, marks: &mut Vec<Mark>) -> Result<u32, AllocError>
     requires { count_in (is_in regions.now) s.now < 2 ^ 32 }
     ensures marks { OnOk result (marks.new.items ≡ marks.old.items ++ marks_inside (is_in regions.now) s.now) }
     ensures count { IfOk result (λ count. count ≡ count_in (is_in regions.now) s.now) }
@@ -153,7 +149,8 @@ fn mark_block(
     marks: &mut Vec<Mark>,
 ) -> Result<u32, AllocError>
     requires { count_all (is_in regions.now) body.now < 2 ^ 32 }
-    ensures marks { OnOk result (marks.new.items ≡ marks.old.items ++ headed (count_all (is_in regions.now) body.now) (marks_all (is_in regions.now) body.now)) }
+    ensures marks { OnOk result (marks.new.items
+        ≡ marks.old.items ++ headed (count_all (is_in regions.now) body.now) (marks_all (is_in regions.now) body.now)) }
     ensures count { IfOk result (λ count. count ≡ count_all (is_in regions.now) body.now) }
 {
     let place = marks.len();
