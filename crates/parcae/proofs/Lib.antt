@@ -4,3 +4,5 @@ pub mod Answering
 pub mod Completing
 pub mod Loading
 pub mod Replaying
+pub mod Telling
+pub mod Clauses

@@ -1,13 +1,8 @@
 -- How the end of a replay follows from that of its drive.
-use Rattle.std.proofs.Common.{◌≡◌, ◌⊎◌, ◌≤◌, ◌+◌, ℕ, ℤ, List, [], ◌∷◌, ◌++◌, length, ap, sym, refl, ◌∙◌, subst, None, Some, Ok, Err, inl, inr, zero, suc, Bool, IsTrue, arith}
+use Rattle.std.proofs.Common.{◌≡◌, ◌⊎◌, ◌≤◌, ◌+◌, ℕ, ℤ, List, [], ◌∷◌, length, ap, sym, refl, ◌∙◌, subst, None, Some, inl, inr, zero, suc, Bool, IsTrue}
 use Rattle.std.specs.Prelude.{map, slice_get}
-use Rattle.std.proofs.KnownBytes.{Appends-trans}
 use Rattle.std.specs.declared.option.Option.{Option}
-use Rattle.std.specs.declared.result.Result.{Result}
-use Rattle.std.specs.Io.KnownBytes.{Appends}
-use Rattle.fate_io.specs.Sending.{Sent, Sends}
-use Rattle.fate_io.specs.declared.sending.SendFault.{SendFault}
-use Rattle.fate_io.specs.declared.sending.SendFault.TheVariants as fault
+use Rattle.fate_io.specs.Sending.{Sent}
 use Rattle.nona_tree.specs.declared.trees.Loop.{Loop}
 use Rattle.nona_tree.specs.declared.trees.Program.{Program}
 use Rattle.nona_tree.specs.Memory.{Memory}
@@ -23,15 +18,16 @@ use Rattle.weave.specs.declared.script.Command.{Command as Order}
 use Rattle.weave.specs.WeaveView.{WeaveView}
 use Rattle.weave.specs.WeavePromise.{weave_promise}
 use Rattle.morta_exec.specs.Lines.{number_lines}
-use Rattle.morta_exec.specs.Course.{has, ServesAll, LogStands}
+use Rattle.morta_exec.specs.Course.{has, most, ServesAll, LogStands}
 use Rattle.morta_exec.specs.declared.fault.DriveFault.{DriveFault}
 use Rattle.morta_exec.specs.declared.fault.DriveFault.TheVariants as drive
 use Rattle.morta_exec.specs.Drive.{StopsShort}
 use Rattle.parcae.specs.declared.status.Status.TheVariants as status
 use Rattle.parcae.specs.Texts.{full_line}
-use Rattle.parcae.specs.Told.{Told, logged, broken_status}
-use Rattle.parcae.specs.Ends.{Way, Whole, Early, Breaks, within, behind, Ends, whole, write_failed, no_memory}
-use Rattle.parcae.specs.Due.{entries_in, IsReplayed, DueOfReplay, log_full, replay_broken}
+use Rattle.parcae.specs.Told.{Told, logged}
+use Rattle.parcae.specs.Ends.{within, Ends, write_failed, no_memory, SendsReport}
+use Rattle.parcae.specs.Due.{entries_in, IsReplayed, DueOfDrive, drive_full, drive_broken}
+use Rattle.parcae.proofs.Ending.{ends_behind}
 
 -- each region of a program in sequence has the plan of `seq` alone
 in_seq_at : (loops : List Loop) (k : ℕ) (code : RegionCode) → slice_get (map in_sequence loops) k ≡ Some code → code.plan ≡ seq_plan
@@ -57,45 +53,31 @@ pub stands_replayed : (commands : List Order) (es : List EntryView) (first : Wea
 stands_replayed commands es first log e h =
     subst (λ (c : List Order). IsReplayed c es log) e (record { legal = h.legal; replayed = h.relation })
 
--- the drive of a replay was broken off by the sink
-pub ends_write : (tree : Program) (es : List EntryView) (ran : Ran) (commands : List Order) (memory asked : Bool) (log : LogView) (sent : Sent)
-    → IsReplayed commands es log → StopsShort es ran.store log.intervals sent drive.WriteFailed
-    → Ends (DueOfReplay tree es ran commands memory asked) sent (logged status.WriteFailed log)
-ends_write tree es ran commands memory asked log sent replayed h =
-    write_failed refl (within (number_lines h.place.printed) h.put.0 h.put.1 (replay_broken log h.place replayed h.behind h.printed) h.put.2 h.put.3
+-- a drive whose log stands was broken off by the sink
+pub ends_write : (tree : Program) (es : List EntryView) (ran : Ran) (stands : LogView → Type 0) (memory asked : Bool) (log : LogView) (sent : Sent)
+    → stands log → length log.intervals ≤ most → StopsShort es ran.store log.intervals sent drive.WriteFailed
+    → Ends (DueOfDrive tree es ran stands memory asked) sent (logged status.WriteFailed log)
+ends_write tree es ran stands memory asked log sent s few h =
+    write_failed refl (within (number_lines h.place.printed) h.put.0 h.put.1 (drive_broken log h.place s few h.behind h.printed) h.put.2 h.put.3
     (record { outcome = refl; store = refl })) h.cause
 
 -- the same for want of memory
-pub ends_memory : (tree : Program) (es : List EntryView) (ran : Ran) (commands : List Order) (memory asked : Bool) (log : LogView) (sent : Sent)
-    → IsReplayed commands es log → StopsShort es ran.store log.intervals sent drive.NoMemory
-    → Ends (DueOfReplay tree es ran commands memory asked) sent (logged status.NoMemory log)
-ends_memory tree es ran commands memory asked log sent replayed h =
-    no_memory refl (within (number_lines h.place.printed) h.put.0 h.put.1 (replay_broken log h.place replayed h.behind h.printed) h.put.2 h.put.3
+pub ends_memory : (tree : Program) (es : List EntryView) (ran : Ran) (stands : LogView → Type 0) (memory asked : Bool) (log : LogView) (sent : Sent)
+    → stands log → length log.intervals ≤ most → StopsShort es ran.store log.intervals sent drive.NoMemory
+    → Ends (DueOfDrive tree es ran stands memory asked) sent (logged status.NoMemory log)
+ends_memory tree es ran stands memory asked log sent s few h =
+    no_memory refl (within (number_lines h.place.printed) h.put.0 h.put.1 (drive_broken log h.place s few h.behind h.printed) h.put.2 h.put.3
     (record { outcome = refl; store = refl }))
 
--- what a report tells once the line of a full log was sent with this result
-abbrev pub full_told : {T : Type 0} → Result T SendFault → LogView → Told
-full_told (Ok x) log = logged status.LogFull log
-full_told (Err f) log = logged (broken_status f) log
-
--- the log is full, and its line went out or was broken off
-pub ends_full : {T : Type 0} (tree : Program) (es : List EntryView) (ran : Ran) (commands : List Order) (memory asked : Bool) (log : LogView)
-    (a b c : Option (List ℕ)) (f g h : ℕ) (result : Result T SendFault)
-    → IsReplayed commands es log → StopsShort es ran.store log.intervals (record { before = a; after = b; faults_before = f; faults = g }) drive.LogFull → f ≤ g
-    → Sends (record { before = b; after = c; faults_before = g; faults = h }) full_line result
-    → Ends (DueOfReplay tree es ran commands memory asked) (record { before = a; after = c; faults_before = f; faults = h }) (full_told result log)
-ends_full tree es ran commands memory asked log a b c f g h (Ok x) replayed stops le sends =
-    whole (number_lines stops.place.printed) full_line (log_full log stops.place replayed stops.cause.0 stops.cause.1 stops.printed)
-    (Appends-trans a b c (number_lines stops.place.printed) full_line stops.cause.2 sends)
-ends_full tree es ran commands memory asked log a b c f g h (Err fault.WriteFailed) replayed stops le sends =
-    write_failed refl (behind (logged status.LogFull log) (number_lines stops.place.printed) full_line sends.0.0 sends.0.1
-    (log_full log stops.place replayed stops.cause.0 stops.cause.1 stops.printed) sends.0.2
-    (Appends-trans a b c (number_lines stops.place.printed) sends.0.0 stops.cause.2 sends.0.3) (record { outcome = refl; store = refl; log = refl }))
-    (omega (arith, le, sends.1))
-ends_full tree es ran commands memory asked log a b c f g h (Err fault.NoMemory) replayed stops le sends =
-    no_memory refl (behind (logged status.LogFull log) (number_lines stops.place.printed) full_line sends.0 sends.1
-    (log_full log stops.place replayed stops.cause.0 stops.cause.1 stops.printed) sends.2
-    (Appends-trans a b c (number_lines stops.place.printed) sends.0 stops.cause.2 sends.3) (record { outcome = refl; store = refl; log = refl }))
+-- the log of a drive is full, and its line was sent
+pub ends_full : (tree : Program) (es : List EntryView) (ran : Ran) (stands : LogView → Type 0) (memory asked : Bool) (log : LogView)
+    (a b c : Option (List ℕ)) (f g h : ℕ) (told : Told)
+    → stands log → StopsShort es ran.store log.intervals (record { before = a; after = b; faults_before = f; faults = g }) drive.LogFull → f ≤ g
+    → SendsReport (record { before = b; after = c; faults_before = g; faults = h }) (logged status.LogFull log) full_line told
+    → Ends (DueOfDrive tree es ran stands memory asked) (record { before = a; after = c; faults_before = f; faults = h }) told
+ends_full tree es ran stands memory asked log a b c f g h told s stops le sends =
+    ends_behind _ a b c f g h (logged status.LogFull log) told (number_lines stops.place.printed) full_line
+    (drive_full log stops.place s stops.cause.0 stops.cause.1 stops.printed) stops.cause.2 le sends
 
 -- the entries of a run are those of its program and its input
 pub entries_are : (p : Program) (input : List ℤ) (n : ℕ) (image : ImageView) (m : Memory) → image ≡ image_in_sequence p → m ≡ start_of p input

@@ -15,19 +15,15 @@ use Rattle.parcae.specs.Words.{Task, Command, seq, replay}
 use Rattle.parcae.specs.Told.{Told}
 use Rattle.parcae.specs.Accepted.{IsAccepted}
 use Rattle.parcae.specs.Ends.{Way, Whole, Ends}
-use Rattle.parcae.specs.Files.{Held, limit_of}
-use Rattle.parcae.specs.Due.{DueOfCommand, DueOfRun, DueOfScript}
-
--- what a shelf shows of a call: what it holds, and the names of failed reads before and after
-pub record Looked : Type 0 where
-  pub held : List ℕ → Held
-  pub failed_before : List (List ℕ)
-  pub failed : List (List ℕ)
+use Rattle.parcae.specs.Looking.{Looked, outside_of}
+use Rattle.parcae.specs.Files.{limit_of}
+use Rattle.parcae.specs.Due.{DueOfCommand, DueOfRun, DueOfReplay}
 
 -- a command's call ends as is due of it, with the names that it adds to those of failed reads
 abbrev pub Answers : Option Command → Looked → Sent → Told → Type 0
 Answers command looked sent told =
-    (added : List (List ℕ)) × (looked.failed ≡ looked.failed_before ++ added) × Ends (DueOfCommand looked.held command added) sent told
+    (added : List (List ℕ)) × (looked.failed ≡ looked.failed_before ++ added)
+    × Ends (DueOfCommand (outside_of looked) command added) sent told
 
 -- a file is held within its limit, with this content
 abbrev pub Holds : Looked → Source → List ℕ → List ℕ → Type 0
@@ -66,4 +62,4 @@ IsComplete (Some (seq task)) looked sent told =
     → IsCalm looked sent told → EndsWhole (DueOfRun task tree numbers []) sent told
 IsComplete (Some (replay task script log)) looked sent told =
     (tree : Program) (numbers : List ℤ) (commands : List Order) → HoldsProgram looked task.file tree → HoldsInput looked task.input numbers
-    → HoldsScript looked script commands → IsCalm looked sent told → EndsWhole (DueOfScript task log tree numbers commands []) sent told
+    → HoldsScript looked script commands → IsCalm looked sent told → EndsWhole (DueOfReplay task log tree numbers commands []) sent told

@@ -4,9 +4,10 @@ ghost use Rattle.nona_store.specs.Input.{number_bound};
 ghost use Rattle.weave.specs.Following.{AreCommands};
 ghost use Rattle.parcae.specs.Told.{told_of};
 ghost use Rattle.parcae.specs.Ends.{Ends};
-ghost use Rattle.parcae.specs.Due.{entries_in, DueOfReplay};
+ghost use Rattle.morta_exec.specs.Puts.{sent_since};
+ghost use Rattle.parcae.specs.Due.{entries_in, IsReplayed, DueOfDrive};
 
-use crate::report::{Report, bare, broken_status, logged};
+use crate::report::{Report, bare, logged, once_sent};
 use crate::runs::{Asked, declared_stays, finish};
 use crate::status::Status;
 use fate_io::{Sink, send};
@@ -27,16 +28,16 @@ pub fn replay_script<K: Sink>(
     program: &Checked,
     input: Vec<i64>,
     script: Script,
-    turns: u64,
     asked: Asked,
     out: &mut K,
 ) -> Report
     requires few { length input.items ≤ number_bound }
     requires valid { AreCommands script.commands.items }
-    requires some_turns { 1 ≤ turns }
-    requires few_turns { turns ≤ 10 ^ 12 }
-    ensures { Ends (DueOfReplay program.now (entries_in program.now input.items turns) (meaning_of program.now input.items turns) script.commands.items asked.memory asked.log)
-        (record { before = K.written out.old; after = K.written out.new; faults_before = K.faults out.old; faults = K.faults out.new }) (told_of result) }
+    requires some_turns { 1 ≤ asked.turns }
+    requires few_turns { asked.turns ≤ 10 ^ 12 }
+    ensures { Ends (DueOfDrive program.now (entries_in program.now input.items asked.turns) (meaning_of program.now input.items asked.turns)
+        (IsReplayed script.commands.items (entries_in program.now input.items asked.turns)) asked.memory asked.log)
+        (sent_since K.written K.faults out.old out.new) (told_of result) }
 {
     checked_is_scoped();
     cells_are_bounded();
@@ -49,21 +50,10 @@ pub fn replay_script<K: Sink>(
     };
     let mut weave = Weave::new(script, CAPACITY);
     let mut log = Log::new(alloc);
-    match drive(alloc, &image, store, turns, &mut weave, out, &mut log) {
-        Ok(run) => finish(
-            alloc,
-            asked,
-            program.program(),
-            run.outcome,
-            run.store,
-            log,
-            out,
-        ),
+    match drive(alloc, &image, store, asked.turns, &mut weave, out, &mut log) {
+        Ok(run) => finish(alloc, program.program(), run, log, asked, out),
         Err(DriveFault::WriteFailed) => logged(Status::WriteFailed, log),
         Err(DriveFault::NoMemory) => logged(Status::NoMemory, log),
-        Err(DriveFault::LogFull) => match send(out, b"log full\n") {
-            Ok(()) => logged(Status::LogFull, log),
-            Err(fault) => logged(broken_status(fault), log),
-        },
+        Err(DriveFault::LogFull) => once_sent(send(out, b"log full\n"), logged(Status::LogFull, log)),
     }
 }
