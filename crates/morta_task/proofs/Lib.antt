@@ -1,3 +1,2 @@
-pub mod InRegions
 pub mod Gathered
 pub mod OfChecked

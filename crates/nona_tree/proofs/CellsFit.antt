@@ -1,15 +1,14 @@
 -- The arrays of a program without a fault have at least one cell each, and together no more than they may.
-use Rattle.std.proofs.Common.{◌≡◌, ◌≤◌, ◌<◌, ◌+◌, ◌++◌, ℕ, zero, suc, Bool, true, false, if◌then◌else◌, List, [], ◌∷◌, length, map, All, nat_lt, nat_le, refl, sym, ap, subst, ◌∙◌, arith}
+use Rattle.std.proofs.Common.{◌≡◌, ◌≤◌, ◌+◌, ◌++◌, ℕ, zero, suc, Bool, true, false, if◌then◌else◌, List, [], ◌∷◌, map, All, nat_lt, nat_le, refl, ap, subst, arith}
 use Rattle.std.specs.Prelude.{sum_by}
 use Rattle.std.proofs.lemmas.Bool.{leb-true}
 use Rattle.std.proofs.lemmas.List.Sums.{sum_by-cons}
-use Rattle.nona_tree.specs.declared.faults.ProgramFault.TheVariants.{Cells}
 use Rattle.nona_tree.specs.declared.trees.ArrayDecl.{ArrayDecl}
 use Rattle.nona_tree.specs.declared.trees.VarDecl.{VarDecl}
 use Rattle.nona_tree.specs.declared.trees.Program.{Program}
 use Rattle.nona_tree.specs.Run.{count_of}
-use Rattle.nona_tree.specs.Seen.{Seen, seen_first, with_scalar, with_array, Declaration, array_decl, var_decl, from_array, declarations, seen_behind, seen_by_body}
-use Rattle.nona_tree.specs.Faults.{fault_where, new_faults, all_faults, cell_bound, cells_in, are_wrong, cells_faults, declarations_faults, faults_of}
+use Rattle.nona_tree.specs.Seen.{Seen, seen_first, with_scalar, with_array, Declaration, array_decl, var_decl, from_array, declarations, seen_by_body}
+use Rattle.nona_tree.specs.Faults.{new_faults, all_faults, cell_bound, are_wrong, cells_faults, declarations_faults, faults_of}
 use Rattle.nona_tree.proofs.Unfaulted.{parts, no_fault, all_more}
 
 -- the arrays among declarations

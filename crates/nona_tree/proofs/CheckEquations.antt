@@ -1,8 +1,7 @@
 -- The definitions that checking rests on, at the forms that hold other expressions or statements.
-use Rattle.std.proofs.Common.{◌≡◌, ◌+◌, ◌++◌, ℕ, zero, suc, Bool, true, List, ◌∷◌, [], refl, sym, ap, ◌∙◌, length, max}
+use Rattle.std.proofs.Common.{◌≡◌, ◌+◌, ◌++◌, ℕ, suc, true, List, ◌∷◌, refl, ap, ◌∙◌, length, max}
 use denote.Hole.Carrier.{hidden}
 use Rattle.nona_tree.specs.declared.faults.ProgramFault.{ProgramFault}
-use Rattle.nona_tree.specs.declared.names.Use.{Use}
 use Rattle.nona_tree.specs.declared.trees.Op.{Op}
 use Rattle.nona_tree.specs.declared.trees.Access.{Access}
 use Rattle.nona_tree.specs.declared.trees.Expr.{Expr, Cell, Neg, Not, Binary}

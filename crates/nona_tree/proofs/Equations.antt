@@ -1,7 +1,6 @@
 -- The definitions at the forms that hold other expressions or statements, by the fields of these forms.
-use Rattle.std.proofs.Common.{◌≡◌, ◌+◌, ◌&&◌, ℕ, IsTrue, List, ◌∷◌, refl, sym, ap, ◌∙◌, None, length, if◌then◌else◌}
+use Rattle.std.proofs.Common.{◌≡◌, ◌+◌, ℕ, List, ◌∷◌, refl, sym, ap, ◌∙◌, length, if◌then◌else◌}
 use Rattle.std.specs.Prelude.{Result, Ok, Err}
-use Rattle.std.specs.declared.option.Option.{Option}
 use Rattle.std.specs.Int.{int_gap}
 use denote.Hole.Carrier.{hidden}
 use Rattle.nona_num.specs.Numbers.{neg_of}

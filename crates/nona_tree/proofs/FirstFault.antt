@@ -1,5 +1,5 @@
 -- A program has one first fault at most.
-use Rattle.std.proofs.Common.{◌≡◌, ◌≤◌, ◌<◌, ◌⊎◌, if◌then◌else◌, eqb, ℕ, refl, sym, ap, ◌∙◌, arith}
+use Rattle.std.proofs.Common.{◌≡◌, if◌then◌else◌, eqb, ℕ, refl, sym, ap, ◌∙◌, arith}
 use Rattle.nona_tree.specs.declared.faults.ProgramFault.{ProgramFault}
 use Rattle.nona_tree.specs.declared.faults.ProgramFault.TheVariants.{Unknown, Twice, KindWrong, IndexAssigned, InputWritten, Cells, Units}
 use Rattle.nona_tree.specs.declared.trees.Program.{Program}

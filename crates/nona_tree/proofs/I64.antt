@@ -14,7 +14,8 @@ use Rattle.nona_tree.specs.declared.trees.Op.{Op}
 use Rattle.nona_tree.specs.declared.trees.Op.TheVariants as op
 use Rattle.nona_tree.specs.declared.trees.Expr.{Expr, Number, Scalar, Cell', Len, Neg', Not', Binary', more_of-Expr, end_of-Expr}
 use Rattle.nona_tree.specs.declared.trees.Expr.TheBlock.{more_of-Access, end_of-Access}
-use Rattle.nona_tree.specs.declared.trees.Stmt.{Stmt, Let, Set, Fold, Put, FoldPut, If', While', For', Print, Row_of-Stmt, end_of-Stmt, more_of-Stmt}
+use Rattle.nona_tree.specs.declared.trees.Stmt.{Stmt, Let, Set, Fold, Put, FoldPut, If', While', For', Print, Row_of-Stmt, end_of-Stmt, more_of-Stmt, items-the_row-Stmt, items_hidden-the_row-Stmt-0}
+use Rattle.nona_tree.specs.declared.trees.Stmt.TheBlock.{hidden-the_row-Stmt-0}
 use Rattle.nona_tree.specs.declared.trees.ArrayDecl.{ArrayDecl}
 use Rattle.nona_tree.specs.declared.trees.VarDecl.{VarDecl}
 use Rattle.nona_tree.specs.declared.trees.Program.{Program}
@@ -217,3 +218,19 @@ start_fits p input h cells = record {
 pub turns_fit : (ss : List Stmt) → AreI64Stmts ss → (n : ℕ) (a b : ℤ) → IsI64 a → IsI64 b → (k : ℕ) → k ≤ int_gap a b → (m : Memory)
     → KeepsI64 m (first_turns (turn (run_all ss n)) a k m).store
 turns_fit ss t n a b fits_a fits_b = fits_first (turn (run_all ss n)) a b fits_a fits_b (fits_turn (run_all ss n) (all_fit ss t n))
+
+-- the numbers of a block are those of the list of its statements
+
+row_numbers : (k : _) (row : Row_of-Stmt k) → AreI64Stmts (items-the_row-Stmt k row) → IsI64Row row
+row_numbers k end_of-Stmt h = tt
+row_numbers k (more_of-Stmt s rest) h = (h.0, row_numbers _ rest h.1)
+
+pub list_numbers : (k : _) (row : Row_of-Stmt k) → IsI64Row row → AreI64Stmts (items-the_row-Stmt k row)
+list_numbers k end_of-Stmt h = tt
+list_numbers k (more_of-Stmt s rest) h = (h.0, list_numbers _ rest h.1)
+
+pub block_numbers : (body : List Stmt) → AreI64Stmts body → IsI64Row (hidden-the_row-Stmt-0 body)
+block_numbers body h = row_numbers _ (hidden-the_row-Stmt-0 body) (subst AreI64Stmts (sym (items_hidden-the_row-Stmt-0 body)) h)
+
+pub statements_numbers : (body : List Stmt) → IsI64Row (hidden-the_row-Stmt-0 body) → AreI64Stmts body
+statements_numbers body h = subst AreI64Stmts (items_hidden-the_row-Stmt-0 body) (list_numbers _ (hidden-the_row-Stmt-0 body) h)

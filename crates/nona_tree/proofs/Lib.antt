@@ -14,3 +14,7 @@ pub mod CheckEquations
 pub mod Overwritten
 pub mod FirstFault
 pub mod CellsFit
+pub mod IdsNumbers
+pub mod Named
+pub mod InRegions
+pub mod Steady

@@ -1,21 +1,16 @@
 -- Ids change nothing of a program but themselves: not its faults, not its size, and not the ids that it is given.
-use Rattle.std.proofs.Common.{◌≡◌, ◌≤◌, ◌+◌, ◌++◌, ℕ, zero, suc, Bool, true, false, if◌then◌else◌, List, [], ◌∷◌, length, map, max, nat_lt, refl, sym, ap, subst, ◌∙◌, arith}
+use Rattle.std.proofs.Common.{◌≡◌, ◌+◌, ◌++◌, ℕ, suc, Bool, true, false, if◌then◌else◌, List, [], ◌∷◌, length, map, max, nat_lt, refl, sym, ap, ◌∙◌}
 use denote.Hole.Carrier.{hidden}
-use Rattle.nona_tree.specs.declared.faults.ProgramFault.{ProgramFault}
-use Rattle.nona_tree.specs.declared.names.Use.{Use}
-use Rattle.nona_tree.specs.declared.trees.Access.{Access}
 use Rattle.nona_tree.specs.declared.trees.Expr.{Expr, Number, Scalar, Cell', Cell, Len, Neg', Neg, Not', Not, Binary', Binary, more_of-Expr, end_of-Expr}
 use Rattle.nona_tree.specs.declared.trees.Expr.TheBlock.{more_of-Access, end_of-Access, hidden-the_row-Expr-1, hidden-the_row-Access-0}
-use Rattle.nona_tree.specs.declared.trees.Loop.{Loop}
 use Rattle.nona_tree.specs.declared.trees.Stmt.{Stmt, Let, Set, Fold, Put, FoldPut, If', If, While', While, For', For, Print, Row_of-Stmt, end_of-Stmt, more_of-Stmt}
 use Rattle.nona_tree.specs.declared.trees.ArrayDecl.{ArrayDecl}
 use Rattle.nona_tree.specs.declared.trees.VarDecl.{VarDecl}
 use Rattle.nona_tree.specs.declared.trees.Program.{Program}
-use Rattle.nona_tree.specs.Seen.{Seen, seen_first, with_scalar, seen_after, Declaration, array_decl, var_decl, from_array, declarations, declared_name, seen_behind, seen_behind_all, seen_by_body}
+use Rattle.nona_tree.specs.Seen.{Seen, seen_first, with_scalar, seen_after, Declaration, array_decl, var_decl, from_array, declarations, seen_behind, seen_behind_all, seen_by_body}
 use Rattle.nona_tree.specs.Faults.{array_faults, target_faults, written_faults, new_faults, expr_faults, row_length, units_faults, stmt_faults, row_faults, all_faults, cells_in, cells_faults, declarations_faults, faults_of}
-use Rattle.nona_tree.specs.Ids.{with_id, scalar_ids, array_ids, new_ids, expr_ids, access_ids, stmt_ids, row_ids, all_ids, arrays_ids, vars_ids, ids_of}
-use Rattle.nona_tree.specs.Smallness.{expr_size, stmt_size, row_size, all_size, size_of, stmt_nesting, row_nesting, all_nesting, nesting_of, size_bound, nesting_bound, IsSmall}
-use Rattle.nona_tree.specs.Checking.{IsChecked}
+use Rattle.nona_tree.specs.Ids.{with_id, scalar_ids, array_ids, new_ids, expr_ids, stmt_ids, row_ids, all_ids, arrays_ids, vars_ids, ids_of}
+use Rattle.nona_tree.specs.Smallness.{expr_size, stmt_size, row_size, all_size, size_of, stmt_nesting, row_nesting, all_nesting, nesting_of}
 use Rattle.nona_tree.proofs.CheckEquations.{faults-If, faults-While, faults-For, ids_at-If, ids_at-While, ids_at-For, size-If, size-While, size-For, nesting-If, nesting-While, nesting-For}
 
 -- the faults of an expression with ids
@@ -269,7 +264,3 @@ nesting_ids_all (s ∷ rest) seen = λ i. max (nesting_stmt s seen i) (nesting_i
 
 pub same_nesting : (p : Program) → nesting_of (ids_of p) ≡ nesting_of p
 same_nesting p = nesting_ids_all p.body (seen_by_body p)
-
-pub ids_checked : (p : Program) → IsSmall p → faults_of p ≡ [] → IsChecked (ids_of p)
-ids_checked p h none =
-    ((subst (λ n. n ≤ size_bound) (sym (same_size p)) h.0, subst (λ n. n ≤ nesting_bound) (sym (same_nesting p)) h.1), same_faults p ∙ none, same_ids p)

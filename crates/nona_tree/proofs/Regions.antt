@@ -15,10 +15,10 @@ use Rattle.nona_tree.specs.Memory.{Memory, declare}
 use Rattle.nona_tree.specs.Value.{Answer, is_zero, value_of}
 use Rattle.nona_tree.specs.Run.{Ran, run, run_row, block, turn, first_turns}
 use Rattle.nona_tree.specs.Beside.{on_ok, on_end, while_gives, first_give}
-use Rattle.nona_tree.specs.Entries.{Opened, is_region, loop_with, regions_in, regions_row, regions_all, count_in, count_row, entries, entries_row, entries_all, IsEntryOf}
+use Rattle.nona_tree.specs.Entries.{Opened, loop_with, regions_in, regions_row, regions_all, count_in, count_row, entries, entries_row, entries_all, IsEntryOf}
 
 -- what a run gives has a property, where each of its parts gives only such
-each_of_two : {B : Type 0} (P : B → Type 0) (xs ys : List B) → AllByRecursion P xs → AllByRecursion P ys → AllByRecursion P (xs ++ ys)
+pub each_of_two : {B : Type 0} (P : B → Type 0) (xs ys : List B) → AllByRecursion P xs → AllByRecursion P ys → AllByRecursion P (xs ++ ys)
 each_of_two P [] ys h g = g
 each_of_two P (x ∷ xs) ys h g = (h.0, each_of_two P xs ys h.1 g)
 
@@ -88,43 +88,43 @@ each_of_loop first true l a b m inside os low_is high_is h =
 each_of_loop first false l a b m inside os low_is high_is h = h
 
 mutual
-  pub each_entry : (s : Stmt) (first n : ℕ) (m : Memory) → AllByRecursion (IsEntryAt first (regions_in s)) (entries first s n m)
-  each_entry (Let x e) first n m = tt
-  each_entry (Set x e) first n m = tt
-  each_entry (Fold x f e) first n m = tt
-  each_entry (Put c e) first n m = tt
-  each_entry (FoldPut c f e) first n m = tt
-  each_entry (Print e at) first n m = tt
-  each_entry (If' test p then_part q else_part) first n m =
-      each_on_ok (IsEntryAt first (regions_row then_part ++ regions_row else_part)) (value_of test m) _
-      (λ v e. each_if (IsEntryAt first (regions_row then_part ++ regions_row else_part)) (is_zero v) _ _
-      (entries_right first (regions_row then_part) (regions_row else_part) _ (each_entry_row else_part (first + count_row then_part) n m))
-      (entries_left first (regions_row then_part) (regions_row else_part) _ (each_entry_row then_part first n m)))
-  each_entry (While' test p body at) first n m =
-      each_while (IsEntryAt first (regions_row body)) (value_of test) (λ x. []) (block (run_row body n)) (entries_row first body n)
-      (λ x. tt) (λ x. each_entry_row body first n x) n m
-  each_entry (For' x low high p body seq at) first n m =
+  pub each_entry : (chosen : Loop → Bool) (s : Stmt) (first n : ℕ) (m : Memory) → AllByRecursion (IsEntryAt first (regions_in chosen s)) (entries chosen first s n m)
+  each_entry chosen (Let x e) first n m = tt
+  each_entry chosen (Set x e) first n m = tt
+  each_entry chosen (Fold x f e) first n m = tt
+  each_entry chosen (Put c e) first n m = tt
+  each_entry chosen (FoldPut c f e) first n m = tt
+  each_entry chosen (Print e at) first n m = tt
+  each_entry chosen (If' test p then_part q else_part) first n m =
+      each_on_ok (IsEntryAt first (regions_row chosen then_part ++ regions_row chosen else_part)) (value_of test m) _
+      (λ v e. each_if (IsEntryAt first (regions_row chosen then_part ++ regions_row chosen else_part)) (is_zero v) _ _
+      (entries_right first (regions_row chosen then_part) (regions_row chosen else_part) _ (each_entry_row chosen else_part (first + count_row chosen then_part) n m))
+      (entries_left first (regions_row chosen then_part) (regions_row chosen else_part) _ (each_entry_row chosen then_part first n m)))
+  each_entry chosen (While' test p body at) first n m =
+      each_while (IsEntryAt first (regions_row chosen body)) (value_of test) (λ x. []) (block (run_row body n)) (entries_row chosen first body n)
+      (λ x. tt) (λ x. each_entry_row chosen body first n x) n m
+  each_entry chosen (For' x low high p body seq at) first n m =
       let l = loop_with x low high (items-the_row-Stmt _ body) seq at in
-      let regions = if is_region l then l ∷ [] else regions_row body in
+      let regions = if chosen l then l ∷ [] else regions_row chosen body in
       each_on_ok (IsEntryAt first regions) (value_of low m) _ (λ a low_is. each_on_ok (IsEntryAt first regions) (value_of high m) _ (λ b high_is.
-      each_of_loop first (is_region l) l a b m (regions_row body) _ low_is high_is
-      (each_first (IsEntryAt first (regions_row body)) (turn (run_row body n)) (λ i r. entries_row first body n (declare i r)) a (λ i r. each_entry_row body first n (declare i r)) (min (int_gap a b) n) m)))
+      each_of_loop first (chosen l) l a b m (regions_row chosen body) _ low_is high_is
+      (each_first (IsEntryAt first (regions_row chosen body)) (turn (run_row body n)) (λ i r. entries_row chosen first body n (declare i r)) a (λ i r. each_entry_row chosen body first n (declare i r)) (min (int_gap a b) n) m)))
 
-  pub each_entry_row : {k : _} (row : Row_of-Stmt k) (first n : ℕ) (m : Memory) → AllByRecursion (IsEntryAt first (regions_row row)) (entries_row first row n m)
-  each_entry_row end_of-Stmt first n m = tt
-  each_entry_row (more_of-Stmt s rest) first n m =
-      each_of_two (IsEntryAt first (regions_in s ++ regions_row rest)) (entries first s n m) _
-      (entries_left first (regions_in s) (regions_row rest) _ (each_entry s first n m))
-      (entries_right first (regions_in s) (regions_row rest) _
-      (each_on_end (IsEntryAt (first + count_in s) (regions_row rest)) (run s n m).store (run s n m).end _ (λ x. each_entry_row rest (first + count_in s) n x)))
+  pub each_entry_row : {k : _} (chosen : Loop → Bool) (row : Row_of-Stmt k) (first n : ℕ) (m : Memory) → AllByRecursion (IsEntryAt first (regions_row chosen row)) (entries_row chosen first row n m)
+  each_entry_row chosen end_of-Stmt first n m = tt
+  each_entry_row chosen (more_of-Stmt s rest) first n m =
+      each_of_two (IsEntryAt first (regions_in chosen s ++ regions_row chosen rest)) (entries chosen first s n m) _
+      (entries_left first (regions_in chosen s) (regions_row chosen rest) _ (each_entry chosen s first n m))
+      (entries_right first (regions_in chosen s) (regions_row chosen rest) _
+      (each_on_end (IsEntryAt (first + count_in chosen s) (regions_row chosen rest)) (run s n m).store (run s n m).end _ (λ x. each_entry_row chosen rest (first + count_in chosen s) n x)))
 
-each_entry_all : (ss : List Stmt) (first n : ℕ) (m : Memory) → AllByRecursion (IsEntryAt first (regions_all ss)) (entries_all first ss n m)
-each_entry_all [] first n m = tt
-each_entry_all (s ∷ rest) first n m =
-    each_of_two (IsEntryAt first (regions_in s ++ regions_all rest)) (entries first s n m) _
-    (entries_left first (regions_in s) (regions_all rest) _ (each_entry s first n m))
-    (entries_right first (regions_in s) (regions_all rest) _
-    (each_on_end (IsEntryAt (first + count_in s) (regions_all rest)) (run s n m).store (run s n m).end _ (λ x. each_entry_all rest (first + count_in s) n x)))
+each_entry_all : (chosen : Loop → Bool) (ss : List Stmt) (first n : ℕ) (m : Memory) → AllByRecursion (IsEntryAt first (regions_all chosen ss)) (entries_all chosen first ss n m)
+each_entry_all chosen [] first n m = tt
+each_entry_all chosen (s ∷ rest) first n m =
+    each_of_two (IsEntryAt first (regions_in chosen s ++ regions_all chosen rest)) (entries chosen first s n m) _
+    (entries_left first (regions_in chosen s) (regions_all chosen rest) _ (each_entry chosen s first n m))
+    (entries_right first (regions_in chosen s) (regions_all chosen rest) _
+    (each_on_end (IsEntryAt (first + count_in chosen s) (regions_all chosen rest)) (run s n m).store (run s n m).end _ (λ x. each_entry_all chosen rest (first + count_in chosen s) n x)))
 
-pub entries_of_regions : (ss : List Stmt) (n : ℕ) (m : Memory) → All (IsEntryOf (regions_all ss)) (entries_all 1 ss n m)
-entries_of_regions ss n m = All-from_recursion (IsEntryOf (regions_all ss)) (entries_all 1 ss n m) (each_entry_all ss 1 n m)
+pub entries_of_regions : (chosen : Loop → Bool) (ss : List Stmt) (n : ℕ) (m : Memory) → All (IsEntryOf (regions_all chosen ss)) (entries_all chosen 1 ss n m)
+entries_of_regions chosen ss n m = All-from_recursion (IsEntryOf (regions_all chosen ss)) (entries_all chosen 1 ss n m) (each_entry_all chosen ss 1 n m)

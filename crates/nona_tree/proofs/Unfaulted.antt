@@ -1,10 +1,9 @@
 -- What a program without a fault names is there, and it assigns no index.
-use Rattle.std.proofs.Common.{ℤ, pos, replicate, ◌≡◌, ◌≢◌, ◌<◌, ◌≤◌, ◌+◌, ◌++◌, ◌&&◌, ℕ, zero, suc, Bool, true, false, cond, not, if◌then◌else◌, List, [], ◌∷◌, length, All, slice_index_or, map, nat_lt, is_some, Some, None, refl, sym, ap, subst, ◌∙◌, arith, length-append}
-use Rattle.std.specs.declared.option.Option.{Option}
+use Rattle.std.proofs.Common.{ℤ, pos, replicate, ◌≡◌, ◌≢◌, ◌<◌, ◌+◌, ◌++◌, ◌&&◌, ℕ, zero, suc, Bool, true, false, cond, not, if◌then◌else◌, List, [], ◌∷◌, length, All, slice_index_or, map, nat_lt, is_some, Some, None, refl, sym, ap, subst, ◌∙◌, arith, length-append}
 use Rattle.std.specs.Prelude.{position}
-use Rattle.std.specs.List.{list_any, position_or_len}
+use Rattle.std.specs.List.{position_or_len}
 use Rattle.std.specs.Str.{bytes_eq}
-use Rattle.std.proofs.lemmas.List.{get_or_append_left, get_or-append_right}
+use Rattle.std.proofs.lemmas.List.{get_or_append_left}
 use Rattle.std.proofs.Math.Seq.{get_or-append_seam}
 use Rattle.std.proofs.lemmas.Bool.{ltb-true}
 use Rattle.std.proofs.lemmas.List.Sums.{prefix_len_stops}
@@ -13,20 +12,18 @@ use Rattle.std.proofs.lemmas.List.{length-map}
 use denote.Hole.Carrier.{hidden}
 use Rattle.nona_tree.specs.declared.faults.ProgramFault.{ProgramFault}
 use Rattle.nona_tree.specs.declared.names.Use.{Use}
-use Rattle.nona_tree.specs.declared.trees.Access.{Access}
 use Rattle.nona_tree.specs.declared.trees.Expr.{Expr, Number, Scalar, Cell', Len, Neg', Not', Binary', more_of-Expr, end_of-Expr}
 use Rattle.nona_tree.specs.declared.trees.Expr.TheBlock.{more_of-Access, end_of-Access, hidden-the_row-Expr-1, hidden-the_row-Access-0}
-use Rattle.nona_tree.specs.declared.trees.Loop.{Loop}
-use Rattle.nona_tree.specs.declared.trees.Stmt.{Stmt, Let, Set, Fold, Put, FoldPut, If', If, While', While, For', For, Print, Row_of-Stmt, end_of-Stmt, more_of-Stmt}
+use Rattle.nona_tree.specs.declared.trees.Stmt.{Stmt, Let, Set, Fold, Put, FoldPut, If', While', For', Print, Row_of-Stmt, end_of-Stmt, more_of-Stmt}
 use Rattle.nona_tree.specs.declared.trees.ArrayDecl.{ArrayDecl}
 use Rattle.nona_tree.specs.declared.trees.VarDecl.{VarDecl}
 use Rattle.nona_tree.specs.declared.trees.Program.{Program}
 use Rattle.nona_tree.specs.Names.{Visible, is_index}
 use Rattle.nona_tree.specs.Run.{start_of, count_of}
-use Rattle.nona_tree.specs.Scope.{depth_after, IsNamed, IsScoped, IsRowScoped, AreScoped, IsSteady, AreSteady}
-use Rattle.nona_tree.specs.Seen.{Seen, seen_first, scalar_id, array_id, is_scalar, is_array, is_seen, with_scalar, with_array, seen_after, Declaration, array_decl, var_decl, from_array, declarations, declared_name, seen_behind, seen_behind_all, seen_by_body}
-use Rattle.nona_tree.specs.Faults.{fault_where, use_faults, scalar_faults, array_faults, target_faults, written_faults, new_faults, expr_faults, units_faults, row_length, stmt_faults, row_faults, all_faults, cells_in, cells_faults, declarations_faults, faults_of}
-use Rattle.nona_tree.specs.Ids.{or_zero, scalar_ids, array_ids, new_ids, expr_ids, access_ids, stmt_ids, row_ids, all_ids, ids_of}
+use Rattle.nona_tree.specs.Scope.{depth_after, IsNamed, IsScoped, AreScoped, IsSteady, AreSteady}
+use Rattle.nona_tree.specs.Seen.{Seen, seen_first, scalar_id, array_id, is_scalar, is_array, is_seen, with_scalar, with_array, seen_after, Declaration, array_decl, var_decl, from_array, declarations, seen_behind_all, seen_by_body}
+use Rattle.nona_tree.specs.Faults.{fault_where, use_faults, scalar_faults, array_faults, target_faults, written_faults, new_faults, expr_faults, units_faults, row_length, stmt_faults, row_faults, all_faults, cells_in, cells_faults, declarations_faults}
+use Rattle.nona_tree.specs.Ids.{or_zero, new_ids, expr_ids, stmt_ids, row_ids, all_ids}
 use Rattle.nona_tree.specs.Checking.{IsChecked}
 use Rattle.nona_tree.proofs.Equations.{scoped-If, scoped-While, scoped-For, steady-If, steady-While, steady-For}
 

@@ -1,5 +1,5 @@
 -- What a checked program keeps, and what a loop asks of the scalars of a store.
-use Rattle.std.specs.Prelude.{◌≡◌, ℕ, List, [], length}
+use Rattle.std.specs.Prelude.{◌≡◌, ℕ, [], length}
 use Rattle.nona_tree.specs.declared.trees.Loop.{Loop}
 use Rattle.nona_tree.specs.declared.trees.Stmt.{Stmt, For}
 use Rattle.nona_tree.specs.declared.trees.Program.{Program}
@@ -8,10 +8,11 @@ use Rattle.nona_tree.specs.Scope.{IsScoped, IsSteady}
 use Rattle.nona_tree.specs.Faults.{faults_of}
 use Rattle.nona_tree.specs.Ids.{ids_of}
 use Rattle.nona_tree.specs.Smallness.{IsSmall}
+use Rattle.nona_tree.specs.Numbers.{IsI64Program}
 
--- a small program without a fault, each name of which has its id
+-- a small program of numbers of 64 bits without a fault, each name of which has its id
 abbrev pub IsChecked : Program → Type 0
-IsChecked p = IsSmall p × (faults_of p ≡ []) × (ids_of p ≡ p)
+IsChecked p = IsSmall p × (faults_of p ≡ []) × (ids_of p ≡ p) × IsI64Program p
 
 -- a store has the scalars of a statement: those that it names from outside are there, each one that it declares has the
 -- number of the scalars that are visible there as its id, and it assigns no index of a loop in it

@@ -1,6 +1,7 @@
 -- The seven faults of a program, each with its place. They look at the texts of names and at places, and never at ids.
-use Rattle.std.specs.Prelude.{◌≡◌, ◌⊎◌, ℕ, zero, suc, ◌+◌, ◌^◌, ◌<◌, ◌≤◌, Bool, true, false, ◌||◌, ◌&&◌, if◌then◌else◌, nat_le, List, [], ◌∷◌, ◌++◌, Contains, All}
+use Rattle.std.specs.Prelude.{◌≡◌, ◌⊎◌, ℕ, zero, suc, ◌+◌, ◌<◌, ◌≤◌, Bool, true, false, if◌then◌else◌, nat_le, List, [], ◌∷◌, ◌++◌, Contains}
 use Rattle.std.specs.Str.{bytes_eq}
+use Rattle.nona_tree.specs.declared.limits.TheConstants.{CELLS}
 use Rattle.nona_tree.specs.declared.faults.ProgramFault.{ProgramFault}
 use Rattle.nona_tree.specs.declared.faults.ProgramFault.TheVariants.{Unknown, Twice, KindWrong, IndexAssigned, InputWritten, Cells, Units}
 use Rattle.nona_tree.specs.declared.names.Use.{Use}
@@ -96,7 +97,7 @@ all_faults (s ∷ rest) seen = stmt_faults s seen ++ all_faults rest (seen_after
 
 -- the most cells that the arrays of a program have together
 abbrev pub cell_bound : ℕ
-cell_bound = 4194304
+cell_bound = CELLS
 
 -- how many cells a declaration asks for
 abbrev pub cells_in : Declaration → ℕ

@@ -1,5 +1,5 @@
 -- The ids of all names of a program. A name has the id of what it names, and 0 where it names nothing that is visible.
-use Rattle.std.specs.Prelude.{ℕ, ◌+◌, Bool, true, List, [], ◌∷◌, length, None, Some}
+use Rattle.std.specs.Prelude.{ℕ, ◌+◌, true, List, [], ◌∷◌, length, None, Some}
 use Rattle.std.specs.declared.option.Option.{Option}
 use Rattle.nona_tree.specs.declared.names.Use.{Use}
 use Rattle.nona_tree.specs.declared.trees.Access.{Access}

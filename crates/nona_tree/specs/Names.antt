@@ -3,6 +3,7 @@ use Rattle.std.specs.Prelude.{ℕ, Bool, ◌&&◌, List, position}
 use Rattle.std.specs.declared.option.Option.{Option}
 use Rattle.std.specs.List.{list_any}
 use Rattle.std.specs.Str.{bytes_eq}
+use Rattle.nona_tree.specs.declared.limits.TheConstants.{UNITS}
 
 -- a scalar that is visible, and whether it is the index of a loop
 pub record Visible : Type 0 where
@@ -19,4 +20,4 @@ is_index name visible = list_any (λ v. bytes_eq v.name name && v.index) visible
 
 -- the most statements at the top of a loop's body
 abbrev pub unit_bound : ℕ
-unit_bound = 64
+unit_bound = UNITS

@@ -1,5 +1,5 @@
 -- What statements do: the sequential meaning.
-use Rattle.std.specs.Prelude.{ℕ, zero, suc, if◌then◌else◌, ℤ, pos, negsuc, ◌+ℤ◌, List, [], ◌∷◌, length, map, min, nat_le, replicate, Result, Ok, Err}
+use Rattle.std.specs.Prelude.{◌≡◌, ℕ, zero, suc, if◌then◌else◌, ℤ, pos, negsuc, ◌+ℤ◌, List, [], ◌∷◌, length, map, min, nat_le, replicate, Result, Ok, Err}
 use Rattle.std.specs.Int.{int_gap}
 use Rattle.nona_num.specs.Folds.{join_of}
 use Rattle.nona_tree.specs.declared.outcomes.Trap.{Trap}
@@ -116,3 +116,7 @@ start_of p input =
 -- the sequential meaning of a program over this input, in which each loop may take n turns whenever it is entered
 abbrev pub meaning_of : Program → List ℤ → ℕ → Ran
 meaning_of p input n = run_all p.body n (start_of p input)
+
+-- the run ends so, and leaves this store
+abbrev pub Reaches : Ran → Memory → Outcome → Type 0
+Reaches ran store end = ran ≡ record { store = store; end = end }

@@ -1,5 +1,5 @@
 -- What is visible at a place of a program.
-use Rattle.std.specs.Prelude.{ℕ, Bool, true, false, ◌||◌, if◌then◌else◌, nat_lt, List, [], ◌∷◌, ◌++◌, map, is_some, codes, position}
+use Rattle.std.specs.Prelude.{ℕ, Bool, false, ◌||◌, if◌then◌else◌, nat_lt, List, [], ◌∷◌, ◌++◌, map, is_some, codes, position}
 use Rattle.std.specs.declared.option.Option.{Option}
 use Rattle.std.specs.Str.{bytes_eq}
 use Rattle.nona_tree.specs.declared.names.Use.{Use}
@@ -7,7 +7,7 @@ use Rattle.nona_tree.specs.declared.trees.Stmt.{Stmt, Let}
 use Rattle.nona_tree.specs.declared.trees.ArrayDecl.{ArrayDecl}
 use Rattle.nona_tree.specs.declared.trees.VarDecl.{VarDecl}
 use Rattle.nona_tree.specs.declared.trees.Program.{Program}
-use Rattle.nona_tree.specs.Names.{Visible, id_of, is_index}
+use Rattle.nona_tree.specs.Names.{Visible, id_of}
 
 -- the visible scalars and the names of the visible arrays, both in order of declaration
 pub record Seen : Type 0 where

@@ -1,6 +1,6 @@
 -- How large a program or a loop is, and which are small.
 use Rattle.std.specs.Prelude.{ℕ, ◌+◌, ◌≤◌, List, [], ◌∷◌, length, max}
-use Rattle.nona_tree.specs.declared.trees.Access.{Access}
+use Rattle.nona_tree.specs.declared.limits.TheConstants.{SIZE, NESTING}
 use Rattle.nona_tree.specs.declared.trees.Expr.{Expr, Number, Scalar, Cell', Len, Neg', Not', Binary', more_of-Expr, end_of-Expr}
 use Rattle.nona_tree.specs.declared.trees.Expr.TheBlock.{more_of-Access, end_of-Access}
 use Rattle.nona_tree.specs.declared.trees.Loop.{Loop}
@@ -69,11 +69,11 @@ nesting_of p = all_nesting p.body
 
 -- the most declarations, statements and expressions of what is small
 abbrev pub size_bound : ℕ
-size_bound = 1048576
+size_bound = SIZE
 
 -- the most blocks of it that lie one inside another
 abbrev pub nesting_bound : ℕ
-nesting_bound = 64
+nesting_bound = NESTING
 
 -- a small program
 abbrev pub IsSmall : Program → Type 0

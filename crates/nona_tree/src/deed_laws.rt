@@ -12,15 +12,19 @@ ghost use Rattle.nona_tree.specs.Deeds.{value_deeds, deeds, deeds_all, SparesSca
 /// deed sets or folds keeps its value, and so does a cell that no deed stores or joins. Without a deed that prints,
 /// the printed numbers are as before. It does nothing when called.
 pub fn unset_stays()
-    ensures scalars { (s : Stmt) (n : ℕ) (m : Memory) (id : ℕ) → id < length m.scalars → All (SparesScalar id) (deeds s n m) → scalar_at (run s n m).store id ≡ scalar_at m id }
-    ensures cells { (s : Stmt) (n : ℕ) (m : Memory) (array place : ℕ) → All (SparesCell array place) (deeds s n m) → cell_at (run s n m).store array place ≡ cell_at m array place }
+    ensures scalars { (s : Stmt) (n : ℕ) (m : Memory) (id : ℕ) → id < length m.scalars → All (SparesScalar id) (deeds s n m)
+        → scalar_at (run s n m).store id ≡ scalar_at m id }
+    ensures cells { (s : Stmt) (n : ℕ) (m : Memory) (array place : ℕ) → All (SparesCell array place) (deeds s n m)
+        → cell_at (run s n m).store array place ≡ cell_at m array place }
     ensures printed { (s : Stmt) (n : ℕ) (m : Memory) → All SparesPrinted (deeds s n m) → (run s n m).store.printed ≡ m.printed }
 {}
 
 /// Says the same of one statement after another. It does nothing when called.
 pub fn all_unset_stays()
-    ensures scalars { (ss : List Stmt) (n : ℕ) (m : Memory) (id : ℕ) → id < length m.scalars → All (SparesScalar id) (deeds_all ss n m) → scalar_at (run_all ss n m).store id ≡ scalar_at m id }
-    ensures cells { (ss : List Stmt) (n : ℕ) (m : Memory) (array place : ℕ) → All (SparesCell array place) (deeds_all ss n m) → cell_at (run_all ss n m).store array place ≡ cell_at m array place }
+    ensures scalars { (ss : List Stmt) (n : ℕ) (m : Memory) (id : ℕ) → id < length m.scalars → All (SparesScalar id) (deeds_all ss n m)
+        → scalar_at (run_all ss n m).store id ≡ scalar_at m id }
+    ensures cells { (ss : List Stmt) (n : ℕ) (m : Memory) (array place : ℕ) → All (SparesCell array place) (deeds_all ss n m)
+        → cell_at (run_all ss n m).store array place ≡ cell_at m array place }
     ensures printed { (ss : List Stmt) (n : ℕ) (m : Memory) → All SparesPrinted (deeds_all ss n m) → (run_all ss n m).store.printed ≡ m.printed }
 {}
 

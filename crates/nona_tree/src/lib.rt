@@ -9,12 +9,11 @@
 
 mod checked;
 mod checked_laws;
-#[cfg(test)]
-mod checked_tests;
 mod deed_laws;
 mod entry_laws;
 mod faults;
 mod laws;
+mod limits;
 mod names;
 mod outcomes;
 mod plans;
@@ -23,13 +22,17 @@ mod trees;
 pub use checked::Checked;
 pub use checked_laws::{cells_are_bounded, checked_is_scoped, first_fault_is_one, ids_settle};
 pub use deed_laws::{all_unset_stays, unset_stays, value_from_deeds};
-pub use entry_laws::{after_next, entries_are_regions, loop_is_after, turns_from_first};
+pub use entry_laws::{
+    after_next, entries_are_regions, locals_hold, loop_is_after, regions_have_places, regions_keep,
+    turns_from_first, unassigned_stays,
+};
 pub use faults::ProgramFault;
 pub use laws::{lengths_stay, numbers_stay, printed_grows, scalars_stay, state_after};
+pub use limits::{CELLS, NAME_BYTES, NESTING, SIZE, UNITS};
 pub use names::{Name, Use};
 pub use outcomes::{Outcome, Trap, TrapKind};
 pub use plans::{Plan, Stage};
-pub use trees::{Access, ArrayDecl, Expr, Loop, Op, Program, Stmt, VarDecl};
+pub use trees::{Access, ArrayDecl, Expr, Loop, Op, Program, Stmt, VarDecl, copy_statements};
 
 #[cfg(test)]
 mod tests;

@@ -1,28 +1,30 @@
 ghost use Rattle.std.specs.Prelude.{◌≡◌, ◌≤◌, ◌↔◌, IsTrue, length};
 
+use crate::limits::NAME_BYTES;
 use arrayvec::ArrayVec;
 use std::marker::Model;
 
 /// A word of the program's text: at most 32 bytes, which contracts see as a list.
 #[derive(Debug, Drop)]
 pub struct Name {
-    bytes: ArrayVec<u8, 32>,
+    bytes: ArrayVec<u8, NAME_BYTES>,
 }
 
 impl Model for Name {
     ghost use Rattle.std.specs.Prelude.{List, ℕ, length, ◌≤◌};
+    ghost use Rattle.nona_tree.specs.declared.limits.TheConstants.{NAME_BYTES};
 
     ghost Value = { List ℕ };
 
     ghost view = { λ n. n.bytes.items };
 
-    ghost invariant = { λ n. length n.bytes.items ≤ 32 };
+    ghost invariant = { λ n. length n.bytes.items ≤ NAME_BYTES };
 }
 
 impl Name {
     /// The name with these bytes, of which there are at most 32.
     pub fn of(bytes: &[u8]) -> Name
-        requires { length bytes.now ≤ 32 }
+        requires { length bytes.now ≤ NAME_BYTES }
         ensures { result ≡ bytes.now }
     {
         let mut kept = ArrayVec::new();
@@ -35,7 +37,7 @@ impl Name {
     /// The bytes, at most 32.
     pub fn as_slice(&self) -> &[u8]
         ensures bytes { result.now ≡ self.now }
-        ensures most { length result.now ≤ 32 }
+        ensures most { length result.now ≤ NAME_BYTES }
     {
         self.bytes.as_slice()
     }

@@ -1,4 +1,5 @@
 ghost use Rattle.std.specs.Prelude.{◌≡◌, IfOk};
+ghost use Rattle.nona_tree.specs.Entries.{may_reshape};
 
 use crate::names::Use;
 use nona_num::Fold;
@@ -132,6 +133,13 @@ pub struct Loop {
 }
 
 impl Loop {
+    /// Whether it may run in other versions than one thread's: it isn't written `seq for`.
+    pub fn may_reshape(&self) -> bool
+        ensures { result ≡ may_reshape self.now }
+    {
+        !self.seq
+    }
+
     /// An equal loop. The one error is that memory ran out.
     #[cycle(stmt)]
     pub fn copy(&self, alloc: Global) -> Result<Loop, AllocError>
@@ -141,7 +149,7 @@ impl Loop {
             index: self.index.copy(),
             low: self.low.copy(alloc)?,
             high: self.high.copy(alloc)?,
-            body: copy_block(self.body.as_slice(), alloc)?,
+            body: copy_statements(self.body.as_slice(), alloc)?,
             seq: self.seq,
             at: self.at,
         })
@@ -230,12 +238,12 @@ impl Stmt {
             }),
             Stmt::If { test, yes, no } => Ok(Stmt::If {
                 test: test.copy(alloc)?,
-                yes: copy_block(yes.as_slice(), alloc)?,
-                no: copy_block(no.as_slice(), alloc)?,
+                yes: copy_statements(yes.as_slice(), alloc)?,
+                no: copy_statements(no.as_slice(), alloc)?,
             }),
             Stmt::While { test, body, at } => Ok(Stmt::While {
                 test: test.copy(alloc)?,
-                body: copy_block(body.as_slice(), alloc)?,
+                body: copy_statements(body.as_slice(), alloc)?,
                 at: *at,
             }),
             Stmt::For(looped) => Ok(Stmt::For(looped.copy(alloc)?)),
@@ -247,9 +255,9 @@ impl Stmt {
     }
 }
 
-/// Equal statements, in the same order.
+/// Equal statements, in the same order. The one error is that memory ran out.
 #[cycle(stmt)]
-fn copy_block(block: &[Stmt], alloc: Global) -> Result<Items<Stmt>, AllocError>
+pub fn copy_statements(block: &[Stmt], alloc: Global) -> Result<Items<Stmt>, AllocError>
     ensures { IfOk result (λ b. b ≡ block.now) }
 {
     let mut copies = Items::new(alloc);

@@ -1,4 +1,5 @@
-use Rattle.nona_tree.proofs.Overwritten.{same_faults, same_ids, same_size, same_nesting, ids_checked}
+use Rattle.nona_tree.proofs.Overwritten.{same_faults, same_ids, same_size, same_nesting}
+use Rattle.nona_tree.proofs.IdsNumbers.{same_numbers, ids_checked}
 use Rattle.nona_tree.proofs.checked_laws.ids_settle.Goals as goal
 
 pub returns-clause-faults : goal.returns-clause-faults
@@ -15,3 +16,6 @@ returns-clause-nesting c = same_nesting
 
 pub returns-clause-checked : goal.returns-clause-checked
 returns-clause-checked c = ids_checked
+
+pub returns-clause-numbers : goal.returns-clause-numbers
+returns-clause-numbers c = same_numbers
