@@ -6,7 +6,8 @@
 #![tactic(auto)]
 
 ghost use Rattle.std.specs.Prelude.{◌≡◌, ◌≤◌, ℕ, List, [], ◌∷◌, length, Ok, Err};
-ghost use Rattle.nona_lex.specs.Bounds.{bounded, bracket_bound};
+ghost use Rattle.nona_lex.specs.declared.bounds.TheConstants.{BRACKETS};
+ghost use Rattle.nona_lex.specs.Bounds.{bounded};
 ghost use Rattle.nona_lex.specs.declared.tokens.Spot.{Spot};
 ghost use Rattle.nona_lex.specs.declared.tokens.Tokens.{Tokens};
 ghost use Rattle.nona_tree.specs.Smallness.{size_of, nesting_of};
@@ -32,5 +33,5 @@ pub fn fault_is_exact()
 /// blocks are nested no deeper than brackets may be open, where the tokens end before one bracket too many.
 pub fn programs_are_small()
     ensures size { (ss : List Spot) (p : Program) → IsProgram ss p → size_of p ≤ length ss }
-    ensures nesting { (tokens : Tokens) (p : Program) → IsProgram (bounded tokens).spots p → nesting_of p ≤ bracket_bound }
+    ensures nesting { (tokens : Tokens) (p : Program) → IsProgram (bounded tokens).spots p → nesting_of p ≤ BRACKETS }
 {}

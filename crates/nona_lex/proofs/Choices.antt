@@ -3,7 +3,8 @@ use Rattle.std.proofs.Common.{◌≡◌, ℕ, zero, suc, ◌≤◌, Bool, true, 
 use Rattle.std.specs.List.{list_all, take_while}
 use Rattle.std.proofs.lemmas.Bool.Decides.{nat_tests}
 use Rattle.std.proofs.lemmas.List.Sums.{take_while-cons}
-use Rattle.nona_lex.specs.Words.{is_digit, is_letter, is_word_byte}
+use Rattle.nona_text.specs.Bytes.{is_digit}
+use Rattle.nona_lex.specs.Words.{is_letter, is_word_byte}
 use Rattle.nona_lex.specs.Lexis.{piece_of, word_piece, number_piece}
 
 -- what holds of each of two values, by the test, holds of the one chosen

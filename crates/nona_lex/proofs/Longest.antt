@@ -16,7 +16,10 @@ use Rattle.nona_lex.specs.declared.tokens.Token.TheVariants as token
 use Rattle.nona_lex.specs.declared.tokens.Fault.TheVariants as fault
 use Rattle.nona_lex.specs.declared.pieces.Piece.{Piece}
 use Rattle.nona_lex.specs.declared.pieces.Piece.TheVariants.{Found, Refused}
-use Rattle.nona_lex.specs.Words.{is_digit, is_letter, is_word_byte, number_of, number_bound, word_bound, fold_word}
+use Rattle.nona_text.specs.Bytes.{is_digit, number_of}
+use Rattle.nona_text.specs.declared.digits.TheConstants.{GREATEST}
+use Rattle.nona_lex.specs.declared.pieces.TheConstants.{WORD_BYTES}
+use Rattle.nona_lex.specs.Words.{is_letter, is_word_byte, fold_word}
 use Rattle.nona_lex.specs.Signs.{with_equals, doubled, token_of_two, operator_of_one, sign_of_one, token_of_one}
 use Rattle.nona_lex.specs.Lexis.{piece_of, sign_piece, sign_piece_of, single_piece, word_piece, fold_or_word, number_piece, begins_with}
 use Rattle.nona_lex.specs.Spelling.{keyword_text, fold_text, operator_text, sign_text, is_word, is_number, Spells}
@@ -118,13 +121,13 @@ fold_least None q word k w = w
 
 word_least : (word behind : List ℕ) (k : ℕ) → k ≤ length word → HasAtLeast k (word_piece word behind)
 word_least word behind k w =
-    either (HasAtLeast k) (nat_lt word_bound (length word)) (Refused fault.NameLong) (fold_or_word (fold_word word) (begins_with 61 behind) word)
+    either (HasAtLeast k) (nat_lt WORD_BYTES (length word)) (Refused fault.NameLong) (fold_or_word (fold_word word) (begins_with 61 behind) word)
     (λ e. tt) (λ e. fold_least (fold_word word) (begins_with 61 behind) word k w)
 
 -- the piece of digits has at least their count
 number_least : (digits : List ℕ) (k : ℕ) → k ≤ length digits → HasAtLeast k (number_piece digits)
 number_least digits k w =
-    either (HasAtLeast k) (nat_lt number_bound (number_of digits)) (Refused fault.Number) (Found (token.Number (pos (number_of digits))) (length digits))
+    either (HasAtLeast k) (nat_lt GREATEST (number_of digits)) (Refused fault.Number) (Found (token.Number (pos (number_of digits))) (length digits))
     (λ e. tt) (λ e. w)
 
 -- a front that is a word

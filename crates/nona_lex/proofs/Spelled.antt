@@ -15,7 +15,10 @@ use Rattle.nona_lex.specs.declared.tokens.Token.TheVariants as token
 use Rattle.nona_lex.specs.declared.tokens.Fault.TheVariants as fault
 use Rattle.nona_lex.specs.declared.pieces.Piece.{Piece}
 use Rattle.nona_lex.specs.declared.pieces.Piece.TheVariants.{Found, Refused}
-use Rattle.nona_lex.specs.Words.{is_blank, is_digit, is_letter, is_word_byte, number_of, number_bound, word_bound, keyword_of, fold_word}
+use Rattle.nona_text.specs.Bytes.{is_blank, is_digit, number_of}
+use Rattle.nona_text.specs.declared.digits.TheConstants.{GREATEST}
+use Rattle.nona_lex.specs.declared.pieces.TheConstants.{WORD_BYTES}
+use Rattle.nona_lex.specs.Words.{is_letter, is_word_byte, keyword_of, fold_word}
 use Rattle.nona_lex.specs.Signs.{with_equals, doubled, token_of_two, operator_of_one, sign_of_one, token_of_one, first_of_two}
 use Rattle.nona_lex.specs.Lexis.{piece_of, sign_piece, sign_piece_of, single_piece, word_piece, word_token, fold_or_word, number_piece, begins_with}
 use Rattle.nona_lex.specs.Spelling.{keyword_text, fold_text, is_word, is_number, Spells}
@@ -169,13 +172,13 @@ words_spelled : (text word : List ℕ) → take (length word) text ≡ word → 
     → IsSpelled text (word_piece word (drop (length word) text))
 words_spelled text word front h =
     let equals : Bool = begins_with 61 (drop (length word) text) in
-    either (IsSpelled text) (nat_lt word_bound (length word)) (Refused fault.NameLong) (fold_or_word (fold_word word) equals word) (λ _. tt)
+    either (IsSpelled text) (nat_lt WORD_BYTES (length word)) (Refused fault.NameLong) (fold_or_word (fold_word word) equals word) (λ _. tt)
     (λ _. fold_spelled text word (fold_word word) equals front h (fold_is word) refl)
 
 numbers_spelled : (text digits : List ℕ) → take (length digits) text ≡ digits → is_number digits ≡ true → IsSpelled text (number_piece digits)
 numbers_spelled text digits front h =
     let t : Token = token.Number (pos (number_of digits)) in
-    either (IsSpelled text) (nat_lt number_bound (number_of digits)) (Refused fault.Number) (Found t (length digits)) (λ _. tt)
+    either (IsSpelled text) (nat_lt GREATEST (number_of digits)) (Refused fault.Number) (Found t (length digits)) (λ _. tt)
     (λ _. subst (λ w. Spells w t) (sym front) (h, refl))
 
 -- the word bytes at a letter are a word, and the digits at a digit a number

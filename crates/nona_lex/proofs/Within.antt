@@ -10,7 +10,10 @@ use Rattle.nona_lex.specs.declared.tokens.Token.TheVariants as token
 use Rattle.nona_lex.specs.declared.tokens.Fault.TheVariants as fault
 use Rattle.nona_lex.specs.declared.pieces.Piece.{Piece}
 use Rattle.nona_lex.specs.declared.pieces.Piece.TheVariants.{Found, Refused}
-use Rattle.nona_lex.specs.Words.{is_blank, is_digit, is_letter, is_word_byte, is_comment_byte, number_of, number_bound, word_bound, fold_word}
+use Rattle.nona_text.specs.Bytes.{is_blank, is_digit, number_of}
+use Rattle.nona_text.specs.declared.digits.TheConstants.{GREATEST}
+use Rattle.nona_lex.specs.declared.pieces.TheConstants.{WORD_BYTES}
+use Rattle.nona_lex.specs.Words.{is_letter, is_word_byte, is_comment_byte, fold_word}
 use Rattle.nona_lex.specs.Signs.{token_of_two, token_of_one}
 use Rattle.nona_lex.specs.Lexis.{piece_of, sign_piece, sign_piece_of, single_piece, word_piece, fold_or_word, number_piece, begins_with}
 use Rattle.nona_lex.specs.Progress.{IsWithin}
@@ -54,13 +57,13 @@ fold_within text word None q p w e = (p, w)
 word_within : (text word : List ℕ) → 0 < length word → length word ≤ length text → IsWithin (word_piece word (drop (length word) text)) (length text)
 word_within text word p w =
     let equals : Bool = begins_with 61 (drop (length word) text) in
-    either (λ x. IsWithin x (length text)) (nat_lt word_bound (length word)) (Refused fault.NameLong) (fold_or_word (fold_word word) equals word) (λ _. tt)
+    either (λ x. IsWithin x (length text)) (nat_lt WORD_BYTES (length word)) (Refused fault.NameLong) (fold_or_word (fold_word word) equals word) (λ _. tt)
     (λ _. fold_within text word (fold_word word) equals p w refl)
 
 number_within : (digits : List ℕ) (n : ℕ) → 0 < length digits → length digits ≤ n → IsWithin (number_piece digits) n
 number_within digits n p w =
     let t : Token = token.Number (pos (number_of digits)) in
-    either (λ x. IsWithin x n) (nat_lt number_bound (number_of digits)) (Refused fault.Number) (Found t (length digits)) (λ _. tt) (λ _. (p, w))
+    either (λ x. IsWithin x n) (nat_lt GREATEST (number_of digits)) (Refused fault.Number) (Found t (length digits)) (λ _. tt) (λ _. (p, w))
 
 hash_in_comment : (b : ℕ) → (b == 35) ≡ true → is_comment_byte b ≡ true
 hash_in_comment b h = grind (arith, nat_tests)

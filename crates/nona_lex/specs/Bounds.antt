@@ -9,15 +9,8 @@ use Rattle.nona_lex.specs.declared.tokens.Fault.TheVariants as fault
 use Rattle.nona_lex.specs.declared.tokens.Spot.{Spot}
 use Rattle.nona_lex.specs.declared.tokens.Cut.{Cut}
 use Rattle.nona_lex.specs.declared.tokens.Tokens.{Tokens}
+use Rattle.nona_lex.specs.declared.bounds.TheConstants.{BRACKETS, OPERATORS}
 use Rattle.nona_lex.specs.Lexis.{with_spot, cut_off, lexed}
-
--- the most brackets that are open at once
-abbrev pub bracket_bound : ℕ
-bracket_bound = 64
-
--- the most operators of one count
-abbrev pub operator_bound : ℕ
-operator_bound = 64
 
 -- the count of operators, and the counts before each open bracket, newest first
 pub record Counts : Type 0 where
@@ -31,12 +24,12 @@ no_counts = record { operators = 0; outside = [] }
 -- behind an opening bracket, where one more may be open
 abbrev pub opened : Counts → Option Counts
 opened c =
-    if nat_lt (length c.outside) bracket_bound then Some (record { operators = 0; outside = c.operators ∷ c.outside })
+    if nat_lt (length c.outside) BRACKETS then Some (record { operators = 0; outside = c.operators ∷ c.outside })
     else None
 
 -- behind an operator, where one more may stand
 abbrev pub operated : Counts → Option Counts
-operated c = if nat_lt c.operators operator_bound then Some (record c { operators = c.operators + 1 }) else None
+operated c = if nat_lt c.operators OPERATORS then Some (record c { operators = c.operators + 1 }) else None
 
 -- the counts where the newest bracket, if one is open, no longer is
 abbrev pub closed_to : ℕ → List ℕ → Counts

@@ -11,7 +11,10 @@ use Rattle.nona_lex.specs.declared.tokens.Cut.{Cut}
 use Rattle.nona_lex.specs.declared.tokens.Tokens.{Tokens}
 use Rattle.nona_lex.specs.declared.pieces.Piece.{Piece}
 use Rattle.nona_lex.specs.declared.pieces.Piece.TheVariants.{Gap, Found, Refused}
-use Rattle.nona_lex.specs.Words.{is_blank, is_digit, is_letter, is_word_byte, is_comment_byte, number_of, number_bound, word_bound, keyword_of, fold_word}
+use Rattle.nona_text.specs.Bytes.{is_blank, is_digit, number_of}
+use Rattle.nona_text.specs.declared.digits.TheConstants.{GREATEST}
+use Rattle.nona_lex.specs.declared.pieces.TheConstants.{WORD_BYTES}
+use Rattle.nona_lex.specs.Words.{is_letter, is_word_byte, is_comment_byte, keyword_of, fold_word}
 use Rattle.nona_lex.specs.Signs.{token_of_two, token_of_one}
 
 -- a reserved word, or else a name
@@ -33,13 +36,13 @@ fold_or_word None equals word = Found (word_token (keyword_of word) word) (lengt
 -- the piece that begins with a word, and the bytes behind the word
 abbrev pub word_piece : List ℕ → List ℕ → Piece
 word_piece word behind =
-    if nat_lt word_bound (length word) then Refused fault.NameLong
+    if nat_lt WORD_BYTES (length word) then Refused fault.NameLong
     else fold_or_word (fold_word word) (begins_with 61 behind) word
 
 -- the piece that digits are
 abbrev pub number_piece : List ℕ → Piece
 number_piece digits =
-    if nat_lt number_bound (number_of digits) then Refused fault.Number
+    if nat_lt GREATEST (number_of digits) then Refused fault.Number
     else Found (token.Number (pos (number_of digits))) (length digits)
 
 -- a token of one byte, or the fault of a byte where no token begins

@@ -8,9 +8,11 @@ use crate::tokens::{Sign, Token};
 use sqlite_items::Items;
 use std::alloc::{AllocError, Global};
 
-const BRACKETS: usize = 64;
+/// The most brackets that are open at once.
+pub const BRACKETS: usize = 64;
 
-const OPERATORS: usize = 64;
+/// The most operators of one count.
+pub const OPERATORS: usize = 64;
 
 /// Where a token stands: the operators of its count, and those of the count before each open bracket.
 #[derive(Debug, Drop)]

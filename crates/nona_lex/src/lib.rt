@@ -13,6 +13,8 @@ mod pieces;
 mod tests;
 mod tokens;
 
+pub use bounds::{BRACKETS, OPERATORS};
 pub use law::{longest_match, tokens_are_few};
 pub use lexer::read_tokens;
+pub use pieces::WORD_BYTES;
 pub use tokens::{Cut, Fault, Keyword, Operator, Sign, Spot, Token, Tokens};

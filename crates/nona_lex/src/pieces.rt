@@ -1,18 +1,19 @@
 // What stands where a token may begin.
 
-ghost use Rattle.std.specs.Prelude.{◌≡◌, ◌+◌, ◌-◌, ◌<◌, ◌≤◌, ◌^◌, length, take_while, min, pos};
-ghost use Rattle.nona_lex.specs.Words.{is_blank, is_digit, is_letter, is_word_byte, is_comment_byte, number_of, keyword_of, fold_word};
+ghost use Rattle.std.specs.Prelude.{◌≡◌, ◌+◌, ◌<◌, ◌≤◌, ◌^◌, length, take_while, pos};
+ghost use Rattle.nona_text.specs.Bytes.{is_digit};
+ghost use Rattle.nona_lex.specs.Words.{is_letter, is_word_byte, is_comment_byte, keyword_of, fold_word};
 ghost use Rattle.nona_lex.specs.Signs.{with_equals, doubled, token_of_two, operator_of_one, sign_of_one, token_of_one};
 ghost use Rattle.nona_lex.specs.Lexis.{word_token, begins_with, word_piece, number_piece, single_piece, sign_piece};
 ghost use Rattle.nona_lex.specs.Progress.{IsWithin, IsPiece};
 
 use crate::tokens::{Fault, Keyword, Operator, Sign, Token};
 use nona_num::Fold;
+use nona_text::{GREATEST, is_blank, is_digit, value};
 use nona_tree::Name;
 
-const WORD_BYTES: usize = 32;
-
-const GREATEST: u64 = 9223372036854775807;
+/// The most bytes of a word.
+pub const WORD_BYTES: usize = 32;
 
 /// What stands where a token may begin, and how many bytes it has.
 #[derive(Debug, Drop)]
@@ -21,18 +22,6 @@ pub enum Piece {
     Gap(usize),
     Found(Token, usize),
     Refused(Fault),
-}
-
-fn is_blank(b: u8) -> bool
-    ensures { result ≡ is_blank b }
-{
-    b == b' ' || b == b'\t' || b == b'\n' || b == b'\r'
-}
-
-fn is_digit(b: u8) -> bool
-    ensures { result ≡ is_digit b }
-{
-    b'0' <= b && b <= b'9'
 }
 
 fn is_letter(b: u8) -> bool
@@ -104,7 +93,7 @@ fn fold_word(word: &[u8]) -> Option<Fold>
 }
 
 fn word_token(word: &[u8]) -> Token
-    requires { length word.now ≤ 32 }
+    requires { length word.now ≤ WORD_BYTES }
     ensures { result ≡ word_token (keyword_of word.now) word.now }
 {
     match keyword(word) {
@@ -133,18 +122,6 @@ fn word(word: &[u8], behind: &[u8]) -> Piece
         Some(fold) if begins_with_equals(behind) => Piece::Found(Token::Fold(fold), word.len() + 1),
         _ => Piece::Found(word_token(word), word.len()),
     }
-}
-
-/// The value of digits, or 2^64 - 1 where it is greater.
-fn value(digits: &[u8]) -> u64
-    ensures { result ≡ min (number_of digits.now) (2 ^ 64 - 1) }
-{
-    let mut value: u64 = 0;
-    for digit in digits {
-        let next = u64::from(digit.saturating_sub(b'0'));
-        value = value.saturating_mul(10).saturating_add(next);
-    }
-    value
 }
 
 /// The token of a number.

@@ -3,7 +3,8 @@ use Rattle.std.proofs.Common.{◌≡◌, ℕ, ◌+◌, ◌^◌, ◌<◌, ◌≤�
 use Rattle.std.specs.Prelude.{◌⊎◌, MatchResult}
 use Rattle.std.specs.declared.option.Option.{Option}
 use Rattle.std.specs.declared.result.Result.{Result}
-use Rattle.nona_lex.specs.Bounds.{bounded, bracket_bound, tokens_of}
+use Rattle.nona_lex.specs.declared.bounds.TheConstants.{BRACKETS}
+use Rattle.nona_lex.specs.Bounds.{bounded, tokens_of}
 use Rattle.nona_lex.specs.Lexis.{lexed}
 use Rattle.nona_lex.specs.declared.tokens.Cut.{Cut}
 use Rattle.nona_lex.specs.declared.tokens.Fault.{Fault}
@@ -132,7 +133,7 @@ abbrev pub FitsTokens : Type 0
 FitsTokens = (ss : List Spot) (p : Program) → IsProgram ss p → size_of p ≤ length ss
 
 abbrev pub FitsBrackets : Type 0
-FitsBrackets = (tokens : Tokens) (p : Program) → IsProgram (bounded tokens).spots p → nesting_of p ≤ bracket_bound
+FitsBrackets = (tokens : Tokens) (p : Program) → IsProgram (bounded tokens).spots p → nesting_of p ≤ BRACKETS
 
 -- the program of a text of at most 2^20 bytes is small
 pub small_program : Few → FitsTokens → FitsBrackets → (text : List ℕ) (p : Program) → length text ≤ 2 ^ 20 → IsReading text p → IsSmall p
