@@ -19,21 +19,21 @@ use Rattle.nona_tree.specs.declared.trees.Program.{Program}
 use Rattle.nona_grammar.specs.Levels.{spot, word, sign, name, number, named, joining, level, loosest, comparisons}
 
 mutual
-  -- place := NAME [ index ]
-  pub data IsPlace : List Spot → List Spot → Access → Type 0 where
-    place-is : (n : List ℕ) (a b c : ℕ) (ss rest : List Spot) (wrap : Bool) (e : Expr) → IsIndex ss (sign s.CloseIndex c ∷ rest) wrap e
-        → IsPlace (name n a ∷ sign s.OpenIndex b ∷ ss) rest (record { array = named n a; wrap = wrap; index = e })
+  -- cell := NAME [ index ]
+  pub data IsCell : List Spot → List Spot → Access → Type 0 where
+    indexed-is : (n : List ℕ) (a b c : ℕ) (ss rest : List Spot) (wrap : Bool) (e : Expr) → IsIndex ss (sign s.CloseIndex c ∷ rest) wrap e
+        → IsCell (name n a ∷ sign s.OpenIndex b ∷ ss) rest (record { array = named n a; wrap = wrap; index = e })
 
   -- index := expr | wrap expr
   pub data IsIndex : List Spot → List Spot → Bool → Expr → Type 0 where
     plain-is : (ss rest : List Spot) (e : Expr) → IsExpr ss rest e → IsIndex ss rest false e
     wrap-is : (a : ℕ) (ss rest : List Spot) (e : Expr) → IsExpr ss rest e → IsIndex (word w.Wrap a ∷ ss) rest true e
 
-  -- primary := NUMBER | NAME | place | len ( NAME ) | ( expr )
+  -- primary := NUMBER | NAME | cell | len ( NAME ) | ( expr )
   pub data IsPrimary : List Spot → List Spot → Expr → Type 0 where
     number-is : (n : ℤ) (a : ℕ) (rest : List Spot) → IsPrimary (number n a ∷ rest) rest (expr.Number n)
     scalar-is : (n : List ℕ) (a : ℕ) (rest : List Spot) → IsPrimary (name n a ∷ rest) rest (expr.Scalar (named n a))
-    cell-is : (ss rest : List Spot) (p : Access) → IsPlace ss rest p → IsPrimary ss rest (expr.Cell p)
+    cell-is : (ss rest : List Spot) (p : Access) → IsCell ss rest p → IsPrimary ss rest (expr.Cell p)
     len-is : (n : List ℕ) (a b c d : ℕ) (rest : List Spot)
         → IsPrimary (word w.Len a ∷ sign s.Open b ∷ name n c ∷ sign s.Close d ∷ rest) rest (expr.Len (named n c))
     brackets-are : (a b : ℕ) (ss rest : List Spot) (e : Expr) → IsExpr ss (sign s.Close b ∷ rest) e → IsPrimary (sign s.Open a ∷ ss) rest e
@@ -67,11 +67,11 @@ mutual
     -- NAME FOLD expr ;
     fold-is : (n : List ℕ) (a b c : ℕ) (f : Fold) (ss rest : List Spot) (e : Expr) → IsExpr ss (sign s.Semicolon c ∷ rest) e
         → IsStmt (name n a ∷ spot (token.Fold f) b ∷ ss) rest (stmt.Fold (named n a) f e)
-    -- place = expr ;
-    put-is : (a b : ℕ) (ss mid rest : List Spot) (p : Access) (e : Expr) → IsPlace ss (sign s.Set a ∷ mid) p
+    -- cell = expr ;
+    put-is : (a b : ℕ) (ss mid rest : List Spot) (p : Access) (e : Expr) → IsCell ss (sign s.Set a ∷ mid) p
         → IsExpr mid (sign s.Semicolon b ∷ rest) e → IsStmt ss rest (stmt.Put p e)
-    -- place FOLD expr ;
-    fold-put-is : (a b : ℕ) (f : Fold) (ss mid rest : List Spot) (p : Access) (e : Expr) → IsPlace ss (spot (token.Fold f) a ∷ mid) p
+    -- cell FOLD expr ;
+    fold-put-is : (a b : ℕ) (f : Fold) (ss mid rest : List Spot) (p : Access) (e : Expr) → IsCell ss (spot (token.Fold f) a ∷ mid) p
         → IsExpr mid (sign s.Semicolon b ∷ rest) e → IsStmt ss rest (stmt.FoldPut p f e)
     -- if expr block   or   if expr block else block
     if-is : (a : ℕ) (ss mid more rest : List Spot) (e : Expr) (then_part else_part : List Stmt) → IsExpr ss mid e → IsBlock mid more then_part

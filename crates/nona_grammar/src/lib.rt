@@ -8,8 +8,10 @@
 ghost use Rattle.std.specs.Prelude.{◌≡◌, ◌≤◌, ℕ, List, [], ◌∷◌, length, Ok, Err};
 ghost use Rattle.nona_lex.specs.declared.bounds.TheConstants.{BRACKETS};
 ghost use Rattle.nona_lex.specs.Bounds.{bounded};
+ghost use Rattle.nona_lex.specs.Laws.{AreI64Tokens};
 ghost use Rattle.nona_lex.specs.declared.tokens.Spot.{Spot};
 ghost use Rattle.nona_lex.specs.declared.tokens.Tokens.{Tokens};
+ghost use Rattle.nona_tree.specs.Numbers.{IsI64Program};
 ghost use Rattle.nona_tree.specs.Smallness.{size_of, nesting_of};
 ghost use Rattle.nona_tree.specs.declared.trees.Program.{Program};
 ghost use Rattle.nona_grammar.specs.Faults.{FaultAt};
@@ -34,4 +36,9 @@ pub fn fault_is_exact()
 pub fn programs_are_small()
     ensures size { (ss : List Spot) (p : Program) → IsProgram ss p → size_of p ≤ length ss }
     ensures nesting { (tokens : Tokens) (p : Program) → IsProgram (bounded tokens).spots p → nesting_of p ≤ BRACKETS }
+{}
+
+/// The numbers of a program have 64 bits where those of its tokens do.
+pub fn programs_are_i64()
+    ensures { (ss : List Spot) (p : Program) → IsProgram ss p → AreI64Tokens ss → IsI64Program p }
 {}

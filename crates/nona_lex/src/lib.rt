@@ -8,13 +8,12 @@
 mod bounds;
 mod law;
 mod lexer;
-mod pieces;
+mod lexemes;
 #[cfg(test)]
 mod tests;
 mod tokens;
 
 pub use bounds::{BRACKETS, OPERATORS};
-pub use law::{longest_match, tokens_are_few};
+pub use law::{gaps_are_blank, longest_match, tokens_are_few, tokens_are_i64};
 pub use lexer::read_tokens;
-pub use pieces::WORD_BYTES;
 pub use tokens::{Cut, Fault, Keyword, Operator, Sign, Spot, Token, Tokens};

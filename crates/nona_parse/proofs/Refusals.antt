@@ -14,7 +14,7 @@ use Rattle.nona_lex.specs.declared.tokens.Tokens.{Tokens}
 use Rattle.nona_tree.specs.Smallness.{IsSmall, size_of, nesting_of}
 use Rattle.nona_tree.specs.declared.trees.Program.{Program}
 use Rattle.nona_tree.specs.declared.trees.Stmt.{Stmt}
-use Rattle.nona_grammar.specs.Faults.{IsFront, StopsAt, IsShort, FirstFault, IsText, FaultAt}
+use Rattle.nona_grammar.specs.Faults.{IsViable, StopsAt, IsShort, FirstFault, IsText, FaultAt}
 use Rattle.nona_grammar.specs.Grammar.{IsProgram}
 use Rattle.nona_grammar.specs.Machine.{Decls, Stmts, build}
 use Rattle.nona_grammar.specs.Stack.{Trees, empty, whole_of}
@@ -23,7 +23,7 @@ use Rattle.nona_parse.specs.declared.fault.ParseFault.TheVariants as parse
 use Rattle.nona_parse.specs.declared.fault.ReadFault.{ReadFault}
 use Rattle.nona_parse.specs.declared.fault.ReadFault.TheVariants.{Syntax, Ended, NoMemory}
 use Rattle.nona_parse.specs.Reading.{IsReading, IsRefusal, IsCutAt, IsSyntaxBefore}
-use Rattle.nona_parse.specs.Steps.{IsStuck, IsUnread, fault_of}
+use Rattle.nona_parse.specs.Steps.{IsStuck, IsUnread, refusal_of}
 
 -- the law that no list of tokens is read as what is no program
 abbrev pub Sound : Type 0
@@ -103,15 +103,15 @@ refused_program text p (parse.Syntax at) read refusal = absurd (no_syntax (token
 refused_program text p parse.NoMemory read refusal = refl
 
 -- the tokens before a cut are refused for its fault
-pub cut_refused : (text : List ℕ) (f : Fault) (at : ℕ) → Some (record { fault = f; at = at }) ≡ (tokens_of text).cut → IsFront IsText (tokens_of text).spots
-    → IsRefusal text (fault_of f at)
+pub cut_refused : (text : List ℕ) (f : Fault) (at : ℕ) → Some (record { fault = f; at = at }) ≡ (tokens_of text).cut → IsViable IsText (tokens_of text).spots
+    → IsRefusal text (refusal_of f at)
 cut_refused text lex.Byte at is front = (sym is, front)
 cut_refused text lex.Number at is front = (sym is, front)
 cut_refused text lex.NameLong at is front = (sym is, front)
 cut_refused text lex.Deep at is front = (sym is, front)
 
 -- a program is the front of one
-pub whole_front : (ss : List Spot) (p : Program) → IsProgram ss p → IsFront IsText ss
+pub whole_front : (ss : List Spot) (p : Program) → IsProgram ss p → IsViable IsText ss
 whole_front ss p program = ([], (p, subst (λ (l : List Spot). IsProgram l p) (sym (append-nil ss)) program))
 
 -- the law that no tokens are two programs

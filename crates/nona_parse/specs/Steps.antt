@@ -31,8 +31,8 @@ abbrev pub Reads : List Sym → List Spot → (Trees → Trees) → List Spot �
 Reads new ss f rest = (end : ℕ) (k : List Sym) (v : Trees) → build end (new ++ k) v ss ≡ build end k (f v) rest
 
 -- these symbols take the tokens up to the rest behind trees of the first kind, and make trees of the second kind
-abbrev pub GoesOn : List Sym → (Trees → Trees) → List Spot → (Trees → Trees) → List Spot → Type 0
-GoesOn new f ss g rest = (end : ℕ) (k : List Sym) (v : Trees) → build end (new ++ k) (f v) ss ≡ build end k (g v) rest
+abbrev pub ReadsBehind : List Sym → (Trees → Trees) → List Spot → (Trees → Trees) → List Spot → Type 0
+ReadsBehind new f ss g rest = (end : ℕ) (k : List Sym) (v : Trees) → build end (new ++ k) (f v) ss ≡ build end k (g v) rest
 
 -- in the place of a symbol before these tokens, others are to come before the rest
 abbrev pub Turns : Sym → List Spot → List Sym → List Spot → Type 0
@@ -56,9 +56,9 @@ IsUnread NoMemory ss = Unit {0}
 IsUnread Ended ss = IsShort IsText ss
 IsUnread (Syntax at) ss = StopsAt IsText ss at
 
--- the fault of a cut at a place
-abbrev pub fault_of : Fault → ℕ → ParseFault
-fault_of lex.Byte at = parse.Byte at
-fault_of lex.Number at = parse.Number at
-fault_of lex.NameLong at = parse.NameLong at
-fault_of lex.Deep at = parse.Deep at
+-- the refusal for a cut at a place
+abbrev pub refusal_of : Fault → ℕ → ParseFault
+refusal_of lex.Byte at = parse.Byte at
+refusal_of lex.Number at = parse.Number at
+refusal_of lex.NameLong at = parse.NameLong at
+refusal_of lex.Deep at = parse.Deep at
