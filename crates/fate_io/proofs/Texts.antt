@@ -1,5 +1,5 @@
--- Texts that go out to a sink one after another.
-use Rattle.std.proofs.Common.{◌≡◌, ℕ, ◌+◌, ◌<◌, ◌≤◌, List, [], ◌∷◌, ◌++◌, length, take, drop, get_or, suc, ap, sym, ◌∙◌, subst, append_assoc, append-nil, arith, None, Some, Ok, Err}
+-- Lemmas for callers: texts that go out to a sink one after another.
+use Rattle.std.proofs.Common.{◌≡◌, ℕ, ◌+◌, ◌<◌, ◌≤◌, List, [], ◌∷◌, ◌++◌, length, take, drop, get_or, suc, ap, sym, ◌∙◌, subst, append_assoc, append-nil, arith, Ok, Err}
 use Rattle.std.proofs.KnownBytes.{Appends-nil, Appends-trans}
 use Rattle.std.proofs.lemmas.List.{take-append-drop, take_more}
 use Rattle.std.proofs.lemmas.List.Concat.{flat_map-append}
@@ -7,28 +7,11 @@ use Rattle.std.proofs.Math.Seq.{drop-cons}
 use Rattle.std.specs.List.{flat_map}
 use Rattle.std.specs.declared.option.Option.{Option}
 use Rattle.std.specs.declared.result.Result.{Result}
-use Rattle.std.specs.Io.KnownBytes.{Appends, Keeps}
+use Rattle.std.specs.Io.KnownBytes.{Appends}
 use Rattle.fate_io.specs.Putting.{AppendsFront}
 use Rattle.fate_io.specs.Sending.{Sent, Sends, BreaksOff}
 use Rattle.fate_io.specs.declared.sending.SendFault.{SendFault}
 use Rattle.fate_io.specs.declared.sending.SendFault.TheVariants.{WriteFailed, NoMemory}
-
--- a text, and then nothing that is told
-pub appends_kept : (a b c : Option (List ℕ)) (text : List ℕ) → Appends a b text → Keeps b c → Appends a c text
-appends_kept None b c text h k = tt
-appends_kept (Some u) None c text h k = absurd h
-appends_kept (Some u) (Some v) None text h k = absurd k
-appends_kept (Some u) (Some v) (Some w) text h k = k ∙ h
-
--- a front of a piece went out, and then some of the rest
-pub front_grows : (a b c : Option (List ℕ)) (piece rest : List ℕ) (n : ℕ)
-    → (front : List ℕ) × (piece ≡ front ++ rest) × Appends a b front
-    → Appends b c (take n rest)
-    → (front : List ℕ) × (piece ≡ front ++ drop n rest) × Appends a c front
-front_grows a b c piece rest n h k =
-    let split : piece ≡ (h.0 ++ take n rest) ++ drop n rest =
-    h.1 ∙ ap (λ (l : List ℕ). h.0 ++ l) (sym (take-append-drop n rest)) ∙ sym (append_assoc h.0 (take n rest) (drop n rest)) in
-    (h.0 ++ take n rest, split, Appends-trans a b c h.0 (take n rest) h.2 k)
 
 -- a text went out whole, and then a front of the next one
 front_behind : (a b c : Option (List ℕ)) (x y : List ℕ) → Appends a b x → AppendsFront b c y → AppendsFront a c (x ++ y)

@@ -1,5 +1,6 @@
 pub mod Causes
 pub mod Memory
+pub mod Outside
 pub mod Putting
 pub mod Reading
 pub mod Sending

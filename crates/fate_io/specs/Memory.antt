@@ -1,17 +1,14 @@
 -- What the kinds in memory show, and when they fail.
-use Rattle.std.specs.Prelude.{◌≡◌, ℕ, ◌<◌, ◌≤◌, ◌+◌, ◌-◌, ◌/◌, ◌^◌, min, take, List, [], ◌∷◌, ◌⊎◌, length, Contains, None, Some, Ok, Err, if◌then◌else◌, string_bytes}
+use Rattle.std.specs.Prelude.{◌≡◌, ℕ, ◌<◌, ◌≤◌, ◌+◌, ◌-◌, ◌/◌, min, take, List, [], ◌∷◌, ◌⊎◌, length, Contains, None, Some, Ok, Err, if◌then◌else◌, string_bytes}
 use Rattle.std.specs.Str.{bytes_eq}
 use Rattle.std.specs.declared.string.String.{String}
 use Rattle.std.specs.declared.vec.Vec.{Vec}
 use Rattle.std.specs.declared.alloc.Global.{Global}
 use Rattle.std.specs.declared.option.Option.{Option}
 use Rattle.std.specs.declared.result.Result.{Result}
+use Rattle.fate_io.specs.Causes.{next_number}
 use Rattle.fate_io.specs.declared.shelves.ShelfFault.{ShelfFault}
 use Rattle.fate_io.specs.declared.shelves.ShelfFault.TheVariants.{Failed, Long, NoMemory}
-
--- the number behind this one, which stays at the last that there is
-abbrev pub next_number : ℕ → ℕ
-next_number n = min (n + 1) (2 ^ 64 - 1)
 
 -- what a shelf in memory shows: its files, the numbers of the reads that fail, how many reads were answered, and the names that failed
 pub record ShelfView : Type 0 where

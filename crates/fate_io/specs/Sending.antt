@@ -15,6 +15,11 @@ pub record Sent : Type 0 where
   pub faults_before : ℕ
   pub faults : ℕ
 
+-- what a sink shows of a call that began with the first of these two
+abbrev pub sent_since : {K : Type 0} → (K → Option (List ℕ)) → (K → ℕ) → K → K → Sent
+sent_since written faults first now =
+    record { before = written first; after = written now; faults_before = faults first; faults = faults now }
+
 -- a front of the text went out; where the sink failed, its count of faults rose
 abbrev pub BreaksOff : Sent → List ℕ → SendFault → Type 0
 BreaksOff sent text WriteFailed = AppendsFront sent.before sent.after text × Rose sent.faults_before sent.faults

@@ -1,5 +1,7 @@
 //! A writer of the machine, as a sink.
-ghost use Rattle.std.specs.Prelude.{◌≡◌, ℕ};
+ghost use Rattle.std.specs.Prelude.{◌≡◌, ◌<◌, IfOk};
+ghost use Rattle.std.specs.Io.{WritesAtMost};
+ghost use Rattle.std.specs.Io.KnownBytes.{WriteAppends};
 ghost use Rattle.fate_io.specs.Putting.{Puts, OutView};
 
 use crate::sinks::{Failed, Sink};
@@ -28,22 +30,14 @@ impl<W: Write + Drop> OutSink<W> {
     }
 }
 
-/// Writes the whole piece, or a front of it. A write that takes nothing is a failure, and one that
-/// was interrupted is tried again.
-fn write_whole<W: Write>(out: &mut W, piece: &[u8]) -> Result<(), Failed>
-    ensures { Puts (W.contents out.old) (W.contents out.new) piece.now result }
+/// One write, which is tried again where it was interrupted.
+fn write_once<W: Write>(out: &mut W, piece: &[u8]) -> Result<usize, Failed>
+    ensures bound { WritesAtMost result piece.now }
+    ensures bytes { WriteAppends (W.contents out.old) (W.contents out.new) result piece.now }
 {
-    let mut rest = piece;
     for _ in 0..u64::MAX {
-        if rest.is_empty() {
-            return Ok(());
-        }
-        match out.write(rest) {
-            Ok(0) => return Err(Failed),
-            Ok(count) => {
-                let (_, later) = rest.split_at(count);
-                rest = later;
-            }
+        match out.write(piece) {
+            Ok(count) => return Ok(count),
             Err(error) => {
                 if error.kind() != ErrorKind::Interrupted {
                     return Err(Failed);
@@ -52,6 +46,37 @@ fn write_whole<W: Write>(out: &mut W, piece: &[u8]) -> Result<(), Failed>
         }
     }
     Err(Failed)
+}
+
+/// Writes some of a piece that isn't empty, at least one byte. A write that takes nothing is a
+/// failure.
+fn write_some<W: Write>(out: &mut W, piece: &[u8]) -> Result<usize, Failed>
+    ensures some { IfOk result (λ count. 0 < count) }
+    ensures bound { WritesAtMost result piece.now }
+    ensures bytes { WriteAppends (W.contents out.old) (W.contents out.new) result piece.now }
+{
+    match write_once(out, piece) {
+        Ok(0) => Err(Failed),
+        Ok(count) => Ok(count),
+        Err(failed) => Err(failed),
+    }
+}
+
+/// Writes the whole piece, or after a failure a front of it. After each write less is left.
+fn write_whole<W: Write>(out: &mut W, piece: &[u8]) -> Result<(), Failed>
+    ensures { Puts (W.contents out.old) (W.contents out.new) piece.now result }
+{
+    let mut rest = piece;
+    while !rest.is_empty() {
+        match write_some(out, rest) {
+            Ok(count) => {
+                let (_, later) = rest.split_at(count);
+                rest = later;
+            }
+            Err(failed) => return Err(failed),
+        }
+    }
+    Ok(())
 }
 
 impl<W: Write + Drop> Sink for OutSink<W> {

@@ -1,7 +1,8 @@
 //! A shelf whose files lie in memory.
-ghost use Rattle.std.specs.Prelude.{◌≡◌, ◌≢◌, ℕ, List, [], Contains, map, string_bytes, MatchOption, None, Some, Ok, Err};
+ghost use Rattle.std.specs.Prelude.{◌≡◌, ◌≢◌, [], Contains, map, string_bytes, MatchOption, None, Some, Ok, Err};
+ghost use Rattle.fate_io.specs.Causes.{next_number};
 ghost use Rattle.fate_io.specs.Reading.{FailedAfter, ReadGives};
-ghost use Rattle.fate_io.specs.Memory.{ShelfView, named_content, file_of, shelf_holds, next_number, FailsWhereListed};
+ghost use Rattle.fate_io.specs.Memory.{ShelfView, named_content, file_of, shelf_holds, FailsWhereListed};
 
 use crate::shelves::{Shelf, ShelfFault};
 use std::alloc::Global;

@@ -1,8 +1,8 @@
 //! A sink that keeps what it takes in memory.
-ghost use Rattle.std.specs.Prelude.{◌≡◌, ◌≤◌, ◌++◌, ◌⊎◌, ℕ, List, [], length, IsOk, IfOk, OnOk, OnErr, Some, vec_capacity, if◌then◌else◌, nat_eq};
-ghost use Rattle.fate_io.specs.Causes.{HasCause};
+ghost use Rattle.std.specs.Prelude.{◌≡◌, ◌≤◌, ◌++◌, ◌⊎◌, [], length, IsOk, IfOk, OnOk, OnErr, Some, vec_capacity, if◌then◌else◌, nat_eq};
+ghost use Rattle.fate_io.specs.Causes.{HasCause, next_number};
 ghost use Rattle.fate_io.specs.Putting.{Puts};
-ghost use Rattle.fate_io.specs.Memory.{SinkView, next_number, Refuses, Accepts, kept_half};
+ghost use Rattle.fate_io.specs.Memory.{SinkView, Refuses, Accepts, kept_half};
 
 use crate::sinks::{Failed, Sink};
 use std::alloc::{AllocError, Global};

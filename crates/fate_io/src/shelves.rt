@@ -1,7 +1,6 @@
 //! A shelf: files that are read by name.
 ghost use Rattle.std.specs.Prelude.{◌≡◌, ℕ, List};
-ghost use Rattle.std.specs.declared.option.Option.{Option};
-ghost use Rattle.fate_io.specs.Reading.{FailedAfter, ReadGives};
+ghost use Rattle.fate_io.specs.Reading.{Held, FailedAfter, ReadGives};
 
 /// Why a read gave no content.
 #[derive(Clone, Copy, Debug, PartialEq, Eq)]
@@ -17,7 +16,7 @@ pub enum ShelfFault {
 /// Files that are read by name.
 pub trait Shelf {
     /// What is told of a name: nothing, or that it is absent, or the bytes that it holds.
-    ghost held: { Self → List ℕ → Option (Option (List ℕ)) };
+    ghost held: { Self → List ℕ → Held };
 
     /// The names whose reads failed, the oldest first.
     ghost failed: { Self → List (List ℕ) };

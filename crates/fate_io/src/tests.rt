@@ -1,22 +1,30 @@
-//! Worked cases of each kind of shelf and of sink.
+//! Worked cases of what no contract says: reads and writes that fail in mid-stream, and real files.
+ghost use Rattle.std.specs.Prelude.{Some};
+
 use crate::{
-    Failed, FileShelf, MemoryShelf, MemorySink, OutSink, SendFault, Shelf, ShelfFault, Sink, send,
+    CountedReader, Failed, FileShelf, MemoryShelf, MemorySink, OutSink, SendFault, Shelf,
+    ShelfFault, Sink, read_opened, send,
 };
-use std::alloc::Global;
-use std::io::{ErrorKind, Write};
+use std::io::{ErrorKind, Read, Write};
 use std::process::Abort;
-use std::rt::Files;
 use std::test::Fail;
 use std::{fs, io};
 
-fn shelf_of(alloc: Global, files: &[(&str, &str)], failing: &[u64]) -> Result<MemoryShelf, Fail> {
-    let mut held = Vec::new(alloc);
-    for (name, text) in files {
-        let name = String::from_str(alloc, name)?;
-        let bytes = Vec::from_slice(alloc, text.as_bytes())?;
-        held.push((name, bytes))?;
+/// Reads each name with the most that is allowed, and compares the answers and how much was read.
+fn read_all<S: Shelf>(
+    rt: &(impl Abort + AllocGlobal),
+    shelf: &mut S,
+    cases: &[(&str, usize, Result<(), ShelfFault>, usize)],
+) {
+    let mut into = Vec::new(rt.alloc());
+    for (name, most, want, count) in cases {
+        assert_eq!(rt;
+            shelf.read(name, *most, &mut into),
+            *want,
+            "at {name}, {most}"
+        );
+        assert_eq!(rt; into.len(), *count, "at {name}, {most}");
     }
-    Ok(MemoryShelf::new(alloc, held, Vec::from_slice(alloc, failing)?))
 }
 
 /// Puts each piece, and compares the answers.
@@ -27,31 +35,22 @@ fn put_all<K: Sink>(rt: &impl Abort, sink: &mut K, cases: &[(&str, Result<(), Fa
 }
 
 #[test]
-fn memory_shelf_reads_and_fails_as_listed(rt: HostRuntime) -> Result<(), Fail> {
+fn memory_shelf_fails_as_listed(rt: HostRuntime) -> Result<(), Fail> {
     let alloc = rt.alloc();
-    let files = [
-        ("loop.txt", "first"),
-        ("other.txt", ""),
-        ("loop.txt", "second"),
-    ];
-    let mut shelf = shelf_of(alloc, &files, &[3])?;
-    let mut into = Vec::from_slice(alloc, b"old".as_slice())?;
-    let cases = [
-        ("loop.txt", 5, Ok(()), "first"),
-        ("loop.txt", 4, Err(ShelfFault::Long), ""),
-        ("loop.txt", 5, Err(ShelfFault::Failed), ""),
-        ("loop.txt", 6, Ok(()), "first"),
-        ("absent.txt", 6, Err(ShelfFault::Failed), ""),
-        ("other.txt", 0, Ok(()), ""),
-    ];
-    for (name, most, want, text) in cases {
-        assert_eq!(rt;
-            shelf.read(name, most, &mut into),
-            want,
-            "at {name}, {most}"
-        );
-        assert_eq!(rt; into.as_slice(), text.as_bytes(), "at {name}, {most}");
+    let mut files = Vec::new(alloc);
+    for text in ["first", "second"] {
+        let bytes = Vec::from_slice(alloc, text.as_bytes())?;
+        files.push((String::from_str(alloc, "loop.txt")?, bytes))?;
     }
+    let mut shelf = MemoryShelf::new(alloc, files, Vec::from_slice(alloc, &[2])?);
+    let cases = [
+        ("loop.txt", 6, Ok(()), 5),
+        ("loop.txt", 6, Err(ShelfFault::Failed), 0),
+        ("loop.txt", 4, Err(ShelfFault::Long), 0),
+        ("loop.txt", 5, Ok(()), 5),
+        ("absent.txt", 5, Err(ShelfFault::Failed), 0),
+    ];
+    read_all(&rt, &mut shelf, &cases);
     Ok(())
 }
 
@@ -59,98 +58,66 @@ fn memory_shelf_reads_and_fails_as_listed(rt: HostRuntime) -> Result<(), Fail> {
 fn memory_sink_keeps_half_of_a_put_that_fails(rt: HostRuntime) -> Result<(), Fail> {
     let alloc = rt.alloc();
     let mut sink = MemorySink::new(alloc, 8, Vec::from_slice(alloc, &[2])?)?;
-    put_all(
-        &rt,
-        &mut sink,
-        &[("12\n", Ok(())), ("", Ok(())), ("345\n", Err(Failed))],
+    assert_eq!(rt; send(&mut sink, b"12\n".as_slice()), Ok(()));
+    assert_eq!(rt;
+        send(&mut sink, b"345\n".as_slice()),
+        Err(SendFault::WriteFailed)
     );
-    assert_eq!(rt; sink.text(), b"12\n34".as_slice());
-    put_all(
-        &rt,
-        &mut sink,
-        &[("abc", Ok(())), ("de", Err(Failed)), ("", Ok(()))],
-    );
+    put_all(&rt, &mut sink, &[("abc", Ok(())), ("de", Err(Failed))]);
     assert_eq!(rt; sink.text(), b"12\n34abc".as_slice());
     Ok(())
 }
 
-#[test]
-fn memory_sink_keeps_what_fits(rt: HostRuntime) -> Result<(), Fail> {
-    let alloc = rt.alloc();
-    let mut sink = MemorySink::new(alloc, 3, Vec::new(alloc))?;
-    assert_eq!(rt; send(&mut sink, b"a".as_slice()), Ok(()));
-    assert_eq!(rt;
-        send(&mut sink, b"bcdefgh".as_slice()),
-        Err(SendFault::WriteFailed)
-    );
-    assert_eq!(rt; sink.text(), b"abc".as_slice());
-    Ok(())
+/// Bytes in memory, read with an interruption before each read. The read of a number from 1 fails.
+#[derive(Drop)]
+struct Pieces<'a> {
+    left: &'a [u8],
+    failing: u64,
+    reads: u64,
+    is_interrupted: bool,
 }
 
-/// A folder with a short file, and a long one of several pieces.
-fn write_files(rt: &(impl Files + Alloc), folder: &str, long: &[u8]) -> io::Result<()> {
-    let _ = fs::remove_dir_all(rt, folder);
-    fs::create_dir(rt, folder)?;
-    fs::write(rt, "fate_io_test/short.txt", "print 1;\n")?;
-    fs::write(rt, "fate_io_test/long.txt", long)
-}
+impl Read for Pieces<'_> {
+    ghost remaining = { λ s. Some s.left.now };
 
-#[test]
-fn file_shelf_reads_real_files(rt: HostRuntime) -> Result<(), Fail> {
-    let alloc = rt.alloc();
-    let long = vec![in alloc; 7u8; 10000]?;
-    write_files(&rt, "fate_io_test", &long)?;
-    let mut shelf = FileShelf::new(&rt, alloc);
-    let mut into = Vec::new(alloc);
-    let cases = [
-        (
-            "fate_io_test/short.txt",
-            100,
-            Ok(()),
-            b"print 1;\n".as_slice(),
-        ),
-        (
-            "fate_io_test/short.txt",
-            9,
-            Ok(()),
-            b"print 1;\n".as_slice(),
-        ),
-        (
-            "fate_io_test/short.txt",
-            8,
-            Err(ShelfFault::Long),
-            b"".as_slice(),
-        ),
-        (
-            "fate_io_test/short.txt",
-            0,
-            Err(ShelfFault::Long),
-            b"".as_slice(),
-        ),
-        (
-            "fate_io_test/absent.txt",
-            100,
-            Err(ShelfFault::Failed),
-            b"".as_slice(),
-        ),
-        ("fate_io_test", 100, Err(ShelfFault::Failed), b"".as_slice()),
-        ("fate_io_test/long.txt", 10000, Ok(()), long.as_slice()),
-        (
-            "fate_io_test/long.txt",
-            9999,
-            Err(ShelfFault::Long),
-            b"".as_slice(),
-        ),
-    ];
-    for (name, most, want, content) in cases {
-        assert_eq!(rt;
-            shelf.read(name, most, &mut into),
-            want,
-            "at {name}, {most}"
-        );
-        assert!(rt; into.as_slice() == content, "at {name}, {most}");
+    fn read(&mut self, buf: &mut [u8]) -> io::Result<usize> {
+        self.is_interrupted = !self.is_interrupted;
+        if self.is_interrupted {
+            return Err(io::Error::from(ErrorKind::Interrupted));
+        }
+        self.reads = self.reads.saturating_add(1);
+        if self.reads == self.failing {
+            return Err(io::Error::from(ErrorKind::BrokenPipe));
+        }
+        self.left.read(buf)
     }
-    fs::remove_dir_all(&rt, "fate_io_test")?;
+}
+
+#[test]
+fn what_was_opened_is_read_to_its_end(rt: HostRuntime) -> Result<(), Fail> {
+    let alloc = rt.alloc();
+    let bytes = vec![in alloc; 7u8; 5000]?;
+    let cases = [
+        (5000, 9, Ok(()), 5000),
+        (5000, 2, Err(ShelfFault::Failed), 0),
+        (5000, 3, Err(ShelfFault::Failed), 0),
+        (4999, 3, Err(ShelfFault::Long), 0),
+    ];
+    for (most, failing, want, count) in cases {
+        let mut opened = Some(CountedReader::new(Pieces {
+            left: &bytes,
+            failing,
+            reads: 0,
+            is_interrupted: false,
+        }));
+        let mut into = Vec::new(alloc);
+        assert_eq!(rt;
+            read_opened(&mut opened, most, &mut into),
+            want,
+            "at {most}, {failing}"
+        );
+        assert_eq!(rt; into.len(), count, "at {most}, {failing}");
+    }
     Ok(())
 }
 
@@ -162,17 +129,6 @@ struct Trickle {
     room: usize,
     is_broken: bool,
     is_interrupted: bool,
-}
-
-impl Trickle {
-    fn new(alloc: Global, room: usize, is_broken: bool) -> Trickle {
-        Trickle {
-            taken: Vec::new(alloc),
-            room,
-            is_broken,
-            is_interrupted: false,
-        }
-    }
 }
 
 impl Write for Trickle {
@@ -195,41 +151,43 @@ impl Write for Trickle {
     }
 }
 
-/// Puts pieces over such a writer, and compares what it took with the text.
-fn put_over(
-    rt: &impl Abort,
-    mut writer: Trickle,
-    cases: &[(&str, Result<(), Failed>)],
-    text: &str,
-) {
-    let mut sink = OutSink::new(&mut writer);
-    put_all(rt, &mut sink, cases);
-    drop(sink);
-    assert_eq!(rt; writer.taken.as_slice(), text.as_bytes());
+#[test]
+fn out_sink_writes_on_until_nothing_is_taken(rt: HostRuntime) {
+    for is_broken in [false, true] {
+        let mut writer = Trickle {
+            taken: Vec::new(rt.alloc()),
+            room: 8,
+            is_broken,
+            is_interrupted: false,
+        };
+        let mut sink = OutSink::new(&mut writer);
+        put_all(
+            &rt,
+            &mut sink,
+            &[("12345", Ok(())), ("6789\n", Err(Failed)), ("", Ok(()))],
+        );
+        drop(sink);
+        assert_eq!(rt; writer.taken.as_slice(), b"12345678".as_slice());
+    }
 }
 
 #[test]
-fn out_sink_writes_on_until_the_piece_is_out(rt: HostRuntime) {
+fn real_files_are_written_and_read(rt: HostRuntime) -> Result<(), Fail> {
     let alloc = rt.alloc();
+    let _ = fs::remove_dir_all(&rt, "fate_io_test");
+    fs::create_dir(&rt, "fate_io_test")?;
+    let mut sink = OutSink::new(fs::create(&rt, "fate_io_test/long.txt")?);
+    let long = vec![in alloc; 7u8; 10000]?;
+    assert_eq!(rt; sink.put(&long), Ok(()));
+    assert_eq!(rt; sink.put(b"end".as_slice()), Ok(()));
+    drop(sink);
     let cases = [
-        ("", Ok(())),
-        ("12345", Ok(())),
-        ("6789\n", Ok(())),
-        ("x", Err(Failed)),
-        ("", Ok(())),
+        ("fate_io_test/long.txt", 10003, Ok(()), 10003),
+        ("fate_io_test/long.txt", 10002, Err(ShelfFault::Long), 0),
+        ("fate_io_test/absent.txt", 100, Err(ShelfFault::Failed), 0),
+        ("fate_io_test", 100, Err(ShelfFault::Failed), 0),
     ];
-    for is_broken in [false, true] {
-        put_over(
-            &rt,
-            Trickle::new(alloc, 10, is_broken),
-            &cases,
-            "123456789\n",
-        );
-        put_over(
-            &rt,
-            Trickle::new(alloc, 3, is_broken),
-            &[("12345", Err(Failed))],
-            "123",
-        );
-    }
+    read_all(&rt, &mut FileShelf::new(&rt, alloc), &cases);
+    fs::remove_dir_all(&rt, "fate_io_test")?;
+    Ok(())
 }
