@@ -6,15 +6,17 @@ use Rattle.nona_tree.specs.declared.plans.Plan.{Plan}
 use Rattle.nona_tree.specs.declared.trees.Loop.{Loop}
 use Rattle.nona_tree.specs.declared.trees.Stmt.{For}
 use Rattle.nona_tree.specs.Memory.{Memory}
+use Rattle.nona_tree.specs.Numbers.{IsI64, AreI64, IsI64Stmt}
 use Rattle.nona_tree.specs.Value.{value_of}
 use Rattle.nona_tree.specs.Run.{Ran}
 use Rattle.nona_tree.specs.Scope.{IsScoped, IsSteady}
 use Rattle.nona_tree.specs.Smallness.{IsSmallLoop}
 use Rattle.nona_tree.specs.Entries.{Opened, Entry, after, entries_all, last_of}
+use Rattle.morta_task.specs.declared.opening.Opening.{Opening}
 use Rattle.morta_task.specs.declared.regions.RegionCode.{RegionCode}
 use Rattle.morta_task.specs.declared.schemes.Scheme.{Scheme}
 use Rattle.morta_task.specs.declared.schemes.Scheme.TheVariants.{Seq, Any, Pipe}
-use Rattle.morta_task.specs.ImageView.{ImageView}
+use Rattle.morta_task.specs.ImageView.{ImageView, is_region_of}
 
 -- An entry: its number in the run and that of its region, both from 1; the loop and the plan of the region; the values of
 -- the loop's bounds; the turn bound of the run; whether the entry offers `any` and `pipe`; and the store at that moment.
@@ -34,18 +36,18 @@ pub record EntryView : Type 0 where
 abbrev pub has_stages : Plan → Bool
 has_stages plan = nat_lt 0 (length plan.pipe)
 
--- the entry to a region of this code: it offers the versions that the plan has
-abbrev pub entered : ℕ → ℕ → RegionCode → ℤ → ℤ → ℕ → Memory → EntryView
-entered number region code low high n m = record {
-  number = number;
-  region = region;
-  looped = code.looped;
-  plan = code.plan;
-  low = low;
-  high = high;
+-- the entry that opens so, to a region with this loop and this plan: it offers the versions that the plan has
+abbrev pub entered : Opening → Loop → Plan → ℕ → Memory → EntryView
+entered opening looped plan n m = record {
+  number = opening.number;
+  region = opening.region;
+  looped = looped;
+  plan = plan;
+  low = opening.low;
+  high = opening.high;
   turns = n;
-  any = code.plan.any;
-  pipe = has_stages code.plan;
+  any = plan.any;
+  pipe = has_stages plan;
   store = m;
 }
 
@@ -61,7 +63,7 @@ last e = last_of e.low e.high e.turns
 
 -- the entry as a loop that was entered
 abbrev pub loop_of : EntryView → Entry
-loop_of e = record { looped = e.looped; store = e.store; low = e.low; turns = e.turns }
+loop_of e = record { looped = e.looped; store = e.store; low = e.low; last = last e; turns = e.turns }
 
 -- the state after the first k iterations of an entry, in one thread
 abbrev pub state_after : EntryView → ℕ → Ran
@@ -75,14 +77,21 @@ before e index = int_gap e.low index
 abbrev pub IsWithin : EntryView → ℤ → Type 0
 IsWithin e index = (index ≡ e.low +ℤ pos (before e index)) × (before e index ≤ before e (last e))
 
--- what stands of each entry of a checked program: the bounds have these values in its store, which has the scalars and the
--- arrays that the loop names, no index in it is assigned, and it is small
+-- What stands of each entry of a checked program: the bounds have these values in its store, which has the scalars and the
+-- arrays that the loop names; no index in the loop is assigned, and it is small; all numbers of the loop, the store and the
+-- bounds have 64 bits; and the entry offers the versions that its plan has.
 pub record IsEntered (e : EntryView) : Type 0 where
   pub low_is : value_of e.looped.low e.store ≡ Ok e.low
   pub high_is : value_of e.looped.high e.store ≡ Ok e.high
   pub scoped : IsScoped (For e.looped) (length e.store.scalars) (length e.store.arrays)
   pub steady : IsSteady (For e.looped) []
   pub small : IsSmallLoop e.looped
+  pub loop_numbers : IsI64Stmt (For e.looped)
+  pub store_numbers : AreI64 e.store
+  pub low_number : IsI64 e.low
+  pub high_number : IsI64 e.high
+  pub any : e.any ≡ e.plan.any
+  pub pipe : e.pipe ≡ has_stages e.plan
 
 -- a plan of the version `seq` alone
 abbrev pub seq_plan : Plan
@@ -96,7 +105,8 @@ plan_of (Some code) = code.plan
 -- a region that the run comes to, with this number in order
 abbrev pub numbered : List RegionCode → ℕ → ℕ → Opened → EntryView
 numbered regions n number o =
-    entered number o.region (record { looped = o.looped; plan = plan_of (slice_get regions (o.region - 1)) }) o.low o.high n o.store
+    let opening : Opening = record { number = number; region = o.region; low = o.low; high = o.high } in
+    entered opening o.looped (plan_of (slice_get regions (o.region - 1))) n o.store
 
 -- regions that a run comes to, numbered from this one on
 abbrev pub numbered_from : List RegionCode → ℕ → ℕ → List Opened → List EntryView
@@ -105,4 +115,4 @@ numbered_from regions n number (o ∷ rest) = numbered regions n number o ∷ nu
 
 -- all entries of the run of an image from a store, where each loop may take n turns whenever it is entered
 abbrev pub entries_of : ImageView → ℕ → Memory → List EntryView
-entries_of image n m = numbered_from image.regions n 1 (entries_all 1 image.main n m)
+entries_of image n m = numbered_from image.regions n 1 (entries_all (is_region_of image) 1 image.main n m)

@@ -7,3 +7,4 @@ pub mod Running
 pub mod Promise
 pub mod Legal
 pub mod InSequence
+pub mod ByPlaces

@@ -1,5 +1,5 @@
 -- What a value that runs or asks promises.
-use Rattle.std.specs.Prelude.{◌≡◌, ◌↔◌, ℕ, ℤ}
+use Rattle.std.specs.Prelude.{◌≡◌, ◌⊎◌, ◌↔◌, ℕ, ℤ}
 use Rattle.std.specs.declared.option.Option.{Option}
 use Rattle.nona_tree.specs.declared.plans.Plan.{Plan}
 use Rattle.nona_tree.specs.declared.trees.Loop.{Loop}
@@ -54,6 +54,18 @@ GoesOn promise old new e config from limit done =
     (log : LogView) (ask : Ask) → promise.asked old log e from ask → config ≡ chosen e ask.config
     → limit ≡ limit_of e from ask.until → promise.ran new log e (interval_of e ask config from done)
 
+-- it may ask this for an entry after each log for which it stands
+abbrev pub MayAsk : {M : Type 0} → Promise M → M → EntryView → Ask → Type 0
+MayAsk promise m e ask = (log : LogView) → promise.stands_for m log → promise.may_ask m e log ask
+
+-- it has asked this for the entry at hand of each log for which it stood
+abbrev pub HasAskedFor : {M : Type 0} → Promise M → M → M → EntryView → ℤ → Ask → Type 0
+HasAskedFor promise old new e from ask = (log : LogView) → IsAtHand log e → promise.stands_for old log → promise.asked new log e from ask
+
+-- once it was told of an interval that had run, it stands for each log with it
+abbrev pub StandsOn : {M : Type 0} → Promise M → M → M → EntryView → Interval → Type 0
+StandsOn promise old new e i = (log : LogView) → promise.ran old log e i → promise.stands_for new (with_interval log e i)
+
 -- a value stands only for logs that meet its relation
 abbrev pub StandsOnly : {M : Type 0} → Promise M → Type 0
 StandsOnly {M} promise = (m : M) (log : LogView) → promise.stands_for m log → promise.log_relation m log
@@ -61,8 +73,10 @@ StandsOnly {M} promise = (m : M) (log : LogView) → promise.stands_for m log �
 -- A runner that is led by another's requests: whatever is asked for, it may run, and where it is not told it stands for the
 -- longer log all the same.
 pub record IsLed {M : Type 0} (promise : Promise M) : Type 0 where
-  pub by_any : (m : M) (log : LogView) (e : EntryView) (from : ℤ) (ask : Ask) → promise.led m → IsAtHand log e → promise.stands_for m log → promise.asked m log e from ask
-  pub untold : (m : M) (log : LogView) (e : EntryView) (i : Interval) → promise.led m → promise.ran m log e i → promise.stands_for m (with_interval log e i)
+  pub by_any : (m : M) (log : LogView) (e : EntryView) (from : ℤ) (ask : Ask) → promise.led m → IsAtHand log e → promise.stands_for m log
+      → promise.asked m log e from ask
+  pub untold : (m : M) (log : LogView) (e : EntryView) (i : Interval) → promise.led m → promise.ran m log e i
+      → promise.stands_for m (with_interval log e i)
 
 -- an asker whose intervals another one runs
 abbrev pub AsksAlone : {M : Type 0} → Promise M → Type 0
@@ -70,8 +84,12 @@ AsksAlone {M} promise =
     (m : M) (log : LogView) (e : EntryView) (from : ℤ) (ask : Ask) (i : Interval) → promise.alone m
     → promise.asked m log e from ask → IsFor e from ask i → promise.ran m log e i
 
+-- one of two parts says what logs they stand for: the asker where it asks alone, the runner where it is led
+abbrev pub SaysOfLogs : {R A : Type 0} → Promise R → Promise A → R → A → Type 0
+SaysOfLogs r a runner asker = a.alone asker ⊎ r.led runner
+
 -- The promise of two parts, of which one runs and the other asks: of the asker where it asks alone, and of the runner where
--- it is led.
+-- it is led. Where it is neither, they stand for no log.
 abbrev pub both_promise : {B R A : Type 0} → (B → R) → (B → A) → Promise R → Promise A → Promise B
 both_promise runner asker r a = record {
   serves = λ b. r.serves (runner b);
@@ -79,9 +97,12 @@ both_promise runner asker r a = record {
   meets = λ b. r.meets (runner b);
   names = λ b. a.names (asker b);
   may_ask = λ b e log ask. a.alone (asker b) → a.may_ask (asker b) e log ask;
-  stands_for = λ b log. (a.alone (asker b) → a.stands_for (asker b) log) × (r.led (runner b) → r.stands_for (runner b) log);
-  asked = λ b log e from ask. (a.alone (asker b) → a.asked (asker b) log e from ask) × (r.led (runner b) → r.asked (runner b) log e from ask);
-  ran = λ b log e i. (a.alone (asker b) → a.ran (asker b) log e i) × (r.led (runner b) → r.ran (runner b) log e i);
+  stands_for = λ b log. SaysOfLogs r a (runner b) (asker b)
+      × (a.alone (asker b) → a.stands_for (asker b) log) × (r.led (runner b) → r.stands_for (runner b) log);
+  asked = λ b log e from ask. SaysOfLogs r a (runner b) (asker b)
+      × (a.alone (asker b) → a.asked (asker b) log e from ask) × (r.led (runner b) → r.asked (runner b) log e from ask);
+  ran = λ b log e i. SaysOfLogs r a (runner b) (asker b)
+      × (a.alone (asker b) → a.ran (asker b) log e i) × (r.led (runner b) → r.ran (runner b) log e i);
   led = λ b. ⊥;
   alone = λ b. ⊥;
   log_relation = λ b log. (a.alone (asker b) → a.log_relation (asker b) log) × (r.led (runner b) → r.log_relation (runner b) log);

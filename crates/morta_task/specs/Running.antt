@@ -1,11 +1,13 @@
 -- What an interval does, whoever runs it.
-use Rattle.std.specs.Prelude.{◌≡◌, ℕ, ◌+◌, ◌-◌, ◌<◌, ◌≤◌, IsTrue, ℤ, None, Some, min, slice_get, if◌then◌else◌}
+use Rattle.std.specs.Prelude.{◌≡◌, ℕ, ◌+◌, ◌-◌, ◌<◌, ◌≤◌, IsTrue, ℤ, None, Some, min, nat_lt, slice_get, if◌then◌else◌}
 use Rattle.std.specs.declared.option.Option.{Option}
 use Rattle.std.specs.Int.{int_gap}
+use Rattle.nona_tree.specs.declared.outcomes.Outcome.{Outcome}
 use Rattle.nona_tree.specs.declared.outcomes.Outcome.TheVariants as outcome
 use Rattle.nona_tree.specs.declared.plans.Plan.{Plan}
 use Rattle.nona_tree.specs.declared.trees.Loop.{Loop}
 use Rattle.nona_tree.specs.Run.{done}
+use Rattle.morta_task.specs.declared.regions.RegionCode.{RegionCode}
 use Rattle.morta_task.specs.declared.schemes.Scheme.{Scheme}
 use Rattle.morta_task.specs.declared.schemes.Scheme.TheVariants.{Seq, Any, Pipe}
 use Rattle.morta_task.specs.declared.schemes.Config.{Config}
@@ -46,9 +48,12 @@ abbrev pub limit_of : EntryView → ℤ → Option ℕ → ℕ
 limit_of e from until = limited (int_gap from (last e)) until
 
 -- the region of an entry is in the image, with the loop and the plan that the entry names
-abbrev pub IsIn : EntryView → ImageView → Type 0
-IsIn e image =
-    (1 ≤ e.region) × (slice_get image.regions (e.region - 1) ≡ Some (record { looped = e.looped; plan = e.plan }))
+pub record IsIn (e : EntryView) (image : ImageView) : Type 0 where
+  pub code : RegionCode
+  pub first : 1 ≤ e.region
+  pub there : slice_get image.regions (e.region - 1) ≡ Some code
+  pub looped : code.looped ≡ e.looped
+  pub plan : code.plan ≡ e.plan
 
 -- a handoff of an entry: all iterations before the next one are done, and its store is the one that one thread has then
 pub record IsHandoff (e : EntryView) (handoff : Handoff) : Type 0 where
@@ -57,7 +62,8 @@ pub record IsHandoff (e : EntryView) (handoff : Handoff) : Type 0 where
 
 -- The conditions of an interval: the entry's region is in the image; the runner serves its loop and plan with the version;
 -- the entry offers it; the handoff is one of this entry; and the limit lies within the entry.
-pub record MayRun (serves : Loop → Plan → Scheme → Type 0) (image : ImageView) (e : EntryView) (handoff : Handoff) (config : Config) (limit : ℕ) : Type 0 where
+pub record MayRun (serves : Loop → Plan → Scheme → Type 0) (image : ImageView) (e : EntryView) (handoff : Handoff) (config : Config)
+    (limit : ℕ) : Type 0 where
   pub entered : IsEntered e
   pub region : IsIn e image
   pub served : serves e.looped e.plan config.scheme
@@ -73,6 +79,13 @@ CutSays e c a limit b Limit = (b ≡ a + limit) × ((state_after e b).end ≡ ou
 CutSays e c a limit b Paused = (b < a + limit) × ((state_after e b).end ≡ outcome.Done)
 CutSays e c a limit b (Trap t) = (c.scheme ≡ Seq) × (a < b) × ((state_after e b).end ≡ outcome.Trap t)
 CutSays e c a limit b (Turns at) = (c.scheme ≡ Seq) × (a < b) × ((state_after e b).end ≡ outcome.OutOfTurns at)
+
+-- why an interval ends, by the end of its last iteration and how many of it were begun: that end, where it isn't done; a pause,
+-- where fewer were begun than the limit; or the limit
+abbrev pub cut_of : Outcome → ℕ → ℕ → Cut
+cut_of outcome.Done begun limit = if nat_lt begun limit then Paused else Limit
+cut_of (outcome.Trap t) begun limit = Trap t
+cut_of (outcome.OutOfTurns at) begun limit = Turns at
 
 -- What an interval did from an index on: it ended within the limit; each iteration before its last one is done in one
 -- thread; its cut says how it ended; and it took a tick at least.

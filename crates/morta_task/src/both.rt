@@ -19,7 +19,7 @@ impl<R: Runner, A: Asker> Morta for Both<R, A> {
 }
 
 impl<R: Runner, A: Asker> Runner for Both<R, A> {
-    ghost runs_only = { λ b log h. ((λ alone. A.stands_only b.asker log (h.0 alone)), (λ led. R.runs_only b.runner log (h.1 led))) };
+    ghost runs_only = { λ b log h. ((λ alone. A.stands_only b.asker log (h.1 alone)), (λ led. R.runs_only b.runner log (h.2 led))) };
 
     ghost led = { record { by_any = λ b log e from ask h. absurd h; untold = λ b log e i h. absurd h } };
 
@@ -36,7 +36,7 @@ impl<R: Runner, A: Asker> Runner for Both<R, A> {
 }
 
 impl<R: Runner, A: Asker> Asker for Both<R, A> {
-    ghost stands_only = { λ b log h. ((λ alone. A.stands_only b.asker log (h.0 alone)), (λ led. R.runs_only b.runner log (h.1 led))) };
+    ghost stands_only = { λ b log h. ((λ alone. A.stands_only b.asker log (h.1 alone)), (λ led. R.runs_only b.runner log (h.2 led))) };
 
     ghost asks_alone = { λ b log e from ask i h. absurd h };
 

@@ -2,6 +2,7 @@ ghost use Rattle.std.specs.Prelude.{◌≡◌, ◌≤◌, ◌^◌};
 ghost use Rattle.nona_tree.specs.Entries.{last_of};
 ghost use Rattle.morta_task.specs.Entries.{entered, offers, last, has_stages};
 
+use crate::opening::Opening;
 use crate::regions::RegionCode;
 use crate::schemes::Scheme;
 use nona_num::{gap, offset};
@@ -51,22 +52,19 @@ fn last_index(low: i64, high: i64, turns: u64) -> i64
 }
 
 impl Entry {
-    /// The entry with this number, from 1 in order of the run, to the region with this number, from 1 in text order, whose
-    /// bounds have the values `low` and `high` in the store. A loop may take `turns` turns, from 1 to 10^12, whenever it is
-    /// entered. Takes constant time: nothing of the loop, the plan or the store is copied.
-    pub fn begin(
-        number: u32,
-        region: u32,
-        code: &RegionCode,
-        low: i64,
-        high: i64,
-        turns: u64,
-        store: &Store,
-    ) -> Entry
+    /// The entry that opens so, to the region of this code, in this store. A loop may take `turns` turns, from 1 to 10^12,
+    /// whenever it is entered. Takes constant time: nothing of the loop, the plan or the store is copied.
+    pub fn begin(opening: Opening, code: &RegionCode, turns: u64, store: &Store) -> Entry
         requires some_turns { 1 ≤ turns }
         requires few_turns { turns ≤ 10 ^ 12 }
-        ensures { result ≡ entered number region code.now low high turns store.now }
+        ensures { result ≡ entered opening code.now.looped code.now.plan turns store.now }
     {
+        let Opening {
+            number,
+            region,
+            low,
+            high,
+        } = opening;
         Entry {
             number,
             region,

@@ -1,29 +1,22 @@
-//! The main statements of a program and its regions, in text order.
+//! The regions of a program at given places, in text order.
 ghost use Rattle.std.specs.Prelude.{◌≡◌, ◌++◌, map, IfOk, OnOk};
-ghost use Rattle.nona_tree.specs.Entries.{is_region, regions_in, regions_all};
+ghost use Rattle.nona_tree.specs.declared.trees.Loop.{Loop};
+ghost use Rattle.nona_tree.specs.Entries.{is_among, regions_in, regions_all};
+ghost use Rattle.morta_task.specs.ByPlaces.{is_in_set};
 ghost use Rattle.morta_task.specs.InSequence.{in_sequence};
 
 use crate::regions::RegionCode;
 use nona_tree::{Loop, Plan, Stmt};
 use sqlite_items::Items;
 use std::alloc::{AllocError, Global};
+use std::collections::BTreeSet;
 
-/// Equal statements, in the same order.
-pub fn copy_all(alloc: Global, body: &[Stmt]) -> Result<Items<Stmt>, AllocError>
-    ensures { IfOk result (λ copies. copies ≡ body.now) }
+/// The set of these places.
+pub fn set_of(alloc: Global, places: &[u32]) -> Result<BTreeSet<u32>, AllocError>
+    ensures { IfOk result (λ set. (l : Loop) → is_in_set set l ≡ is_among places.now l) }
 {
-    let mut copies = Items::new(alloc);
-    for stmt in body {
-        copies.push(stmt.copy(alloc)?)?;
-    }
-    Ok(copies)
-}
-
-/// Whether a loop that is come to from outside in is a region: each is but one that is written `seq for`.
-fn is_region(looped: &Loop) -> bool
-    ensures { result ≡ is_region looped.now }
-{
-    !looped.seq
+    let set: BTreeSet<u32> = places.iter().copied().collect(alloc)?;
+    Ok(set)
 }
 
 /// The region of this loop, with a plan of the version `seq` alone.
@@ -40,39 +33,52 @@ fn in_sequence(alloc: Global, looped: &Loop) -> Result<RegionCode, AllocError>
     })
 }
 
-/// Adds the regions of statements behind those that are there, in text order.
+/// Whether the set has the place of a loop.
+fn has(places: &BTreeSet<u32>, looped: &Loop) -> bool
+    ensures { result ≡ is_in_set places.now looped.now }
+{
+    places.contains(&looped.at)
+}
+
+/// Adds the regions of statements behind those that are there, in text order: the loops that the set names.
 #[cycle(gather)]
 pub fn gather_all(
     alloc: Global,
     body: &[Stmt],
+    places: &BTreeSet<u32>,
     regions: &mut Vec<RegionCode>,
 ) -> Result<(), AllocError>
-    ensures { OnOk result (regions.new.items ≡ regions.old.items ++ map in_sequence (regions_all body.now)) }
+    ensures { OnOk result (regions.new.items ≡ regions.old.items ++ map in_sequence (regions_all (is_in_set places.now) body.now)) }
 {
     for stmt in body {
-        gather(alloc, stmt, regions)?;
+        gather(alloc, stmt, places, regions)?;
     }
     Ok(())
 }
 
 /// Adds the regions of a statement: none inside a region, and those of all blocks of another one.
 #[cycle(gather)]
-fn gather(alloc: Global, stmt: &Stmt, regions: &mut Vec<RegionCode>) -> Result<(), AllocError>
-    ensures { OnOk result (regions.new.items ≡ regions.old.items ++ map in_sequence (regions_in stmt.now)) }
+fn gather(
+    alloc: Global,
+    stmt: &Stmt,
+    places: &BTreeSet<u32>,
+    regions: &mut Vec<RegionCode>,
+) -> Result<(), AllocError>
+    ensures { OnOk result (regions.new.items ≡ regions.old.items ++ map in_sequence (regions_in (is_in_set places.now) stmt.now)) }
 {
     match stmt {
         Stmt::If { test: _, yes, no } => {
-            gather_all(alloc, yes.as_slice(), regions)?;
-            gather_all(alloc, no.as_slice(), regions)
+            gather_all(alloc, yes.as_slice(), places, regions)?;
+            gather_all(alloc, no.as_slice(), places, regions)
         }
         Stmt::While {
             test: _,
             body,
             at: _,
-        } => gather_all(alloc, body.as_slice(), regions),
+        } => gather_all(alloc, body.as_slice(), places, regions),
         Stmt::For(looped) => {
-            if !is_region(looped) {
-                return gather_all(alloc, looped.body.as_slice(), regions);
+            if !has(places, looped) {
+                return gather_all(alloc, looped.body.as_slice(), places, regions);
             }
             regions.push(in_sequence(alloc, looped)?)?;
             Ok(())

@@ -1,6 +1,9 @@
+ghost use Rattle.std.specs.Prelude.{◌≡◌};
+ghost use Rattle.morta_task.specs.Running.{cut_of};
+
 use crate::schemes::{Ask, Config};
 use nona_store::Store;
-use nona_tree::Trap;
+use nona_tree::{Outcome, Trap};
 
 /// Why an interval ended.
 #[derive(Clone, Copy, Debug, PartialEq, Eq)]
@@ -13,6 +16,25 @@ pub enum Cut {
     Trap(Trap),
     /// A loop in its last iteration is out of turns; `at` is the place of that loop's word `for` or `while`.
     Turns { at: u32 },
+}
+
+impl Cut {
+    /// Why an interval ends whose last iteration ended so, where so many of its iterations were begun, up to a limit.
+    pub fn of(end: Outcome, begun: u64, limit: u64) -> Cut
+        ensures { result ≡ cut_of end begun limit }
+    {
+        match end {
+            Outcome::Done => {
+                if begun < limit {
+                    Cut::Paused
+                } else {
+                    Cut::Limit
+                }
+            }
+            Outcome::Trap(trap) => Cut::Trap(trap),
+            Outcome::OutOfTurns { at } => Cut::Turns { at },
+        }
+    }
 }
 
 /// How often the tasks of a replayed interval moved, and how often they waited.

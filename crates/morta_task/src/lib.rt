@@ -8,7 +8,9 @@ mod gather;
 mod image;
 mod intervals;
 mod log;
+mod opening;
 mod regions;
+mod reshapable;
 mod schemes;
 mod traits;
 
@@ -17,9 +19,8 @@ pub use entry::Entry;
 pub use image::Image;
 pub use intervals::{Cut, Handoff, Interval, Ran, Work};
 pub use log::Log;
+pub use opening::Opening;
 pub use regions::RegionCode;
+pub use reshapable::reshapable_places;
 pub use schemes::{Ask, Config, Scheme};
 pub use traits::{Asker, Morta, Runner};
-
-#[cfg(test)]
-mod tests;

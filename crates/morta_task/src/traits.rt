@@ -1,8 +1,7 @@
 ghost use Rattle.std.specs.Prelude.{◌≡◌, IfOk, OnOk};
 ghost use Rattle.morta_task.specs.Entries.{IsWithin};
-ghost use Rattle.morta_task.specs.LogView.{LogView, with_interval, IsAtHand};
 ghost use Rattle.morta_task.specs.Running.{MayRun, IsConfig, IsDone, HandsOn, MovesOn, IsOf};
-ghost use Rattle.morta_task.specs.Promise.{Promise, Keeps, GoesOn, StandsOnly, IsLed, AsksAlone};
+ghost use Rattle.morta_task.specs.Promise.{Promise, Keeps, GoesOn, MayAsk, HasAskedFor, StandsOn, StandsOnly, IsLed, AsksAlone};
 
 use crate::entry::Entry;
 use crate::image::Image;
@@ -50,15 +49,15 @@ pub trait Asker: Morta {
         requires within { IsWithin entry.now next }
         ensures config { IsConfig result.config }
         ensures names { (Self.promise).names self.old result.config.scheme }
-        ensures may { (log : LogView) → (Self.promise).stands_for self.old log → (Self.promise).may_ask self.old entry.now log result }
-        ensures asked { (log : LogView) → IsAtHand log entry.now → (Self.promise).stands_for self.old log → (Self.promise).asked self.new log entry.now next result }
+        ensures may { MayAsk Self.promise self.old entry.now result }
+        ensures asked { HasAskedFor Self.promise self.old self.new entry.now next result }
         ensures ticks { (Self.promise).ticks_to_come self.new ≡ (Self.promise).ticks_to_come self.old }
         ensures keeps { Keeps Self.promise self.old self.new };
 
     /// Tells of the interval that was run for the last request. It takes no memory.
     fn told(&mut self, entry: &Entry, interval: &Interval)
         requires of { IsOf entry.now interval.now }
-        ensures stands { (log : LogView) → (Self.promise).ran self.old log entry.now interval.now → (Self.promise).stands_for self.new (with_interval log entry.now interval.now) }
+        ensures stands { StandsOn Self.promise self.old self.new entry.now interval.now }
         ensures ticks { (Self.promise).ticks_to_come self.new ≡ (Self.promise).ticks_to_come self.old }
         ensures keeps { Keeps Self.promise self.old self.new };
 

@@ -1,4 +1,4 @@
--- The replay of a script: which requests it makes, and what each interval does.
+-- The replay of a script: what its commands do to each interval, and which requests it makes.
 use Rattle.std.specs.Prelude.{◌≡◌, ℕ, ◌-◌, ℤ, List, [], ◌∷◌, None, Some, Contains, slice_get}
 use Rattle.std.specs.declared.option.Option.{Option}
 use Rattle.morta_task.specs.declared.schemes.Scheme.{Scheme}
@@ -8,6 +8,7 @@ use Rattle.morta_task.specs.declared.schemes.Ask.{Ask}
 use Rattle.morta_task.specs.declared.intervals.Interval.{Interval}
 use Rattle.morta_task.specs.declared.intervals.Ran.{Ran}
 use Rattle.morta_task.specs.Entries.{EntryView, before, state_after}
+use Rattle.morta_task.specs.Legal.{IsLegalLog}
 use Rattle.morta_task.specs.LogView.{LogView}
 use Rattle.morta_task.specs.Running.{seq_one, limit_of}
 use Rattle.weave.specs.declared.script.Command.{Command}
@@ -16,84 +17,102 @@ use Rattle.weave.specs.Machines.{RunsOut}
 use Rattle.weave.specs.Following.{Followed, follow}
 use Rattle.weave.specs.SeqNet.{SeqNet, begun_net, seq_machine, ran_of}
 
--- the commands that are left, and the current configuration
-pub record Held : Type 0 where
-  pub left : List Command
-  pub current : Config
-
--- at the beginning
-abbrev pub held_first : List Command → Held
-held_first script = record { left = script; current = seq_one }
-
--- what is asked for the next interval: what a `use` says that comes first, or the current configuration
-abbrev pub request_of : List Command → Config → Ask
-request_of (Use config until ∷ rest) current = record { config = config; until = until }
-request_of (Step task moves ∷ rest) current = record { config = current; until = None }
-request_of (Pause ∷ rest) current = record { config = current; until = None }
-request_of [] current = record { config = current; until = None }
-
--- what is held once that was asked: a `use` that came first is taken, and its configuration is the current one
-abbrev pub held_asked : List Command → Config → Held
-held_asked (Use config until ∷ rest) current = record { left = rest; current = config }
-held_asked (Step task moves ∷ rest) current = record { left = Step task moves ∷ rest; current = current }
-held_asked (Pause ∷ rest) current = record { left = Pause ∷ rest; current = current }
-held_asked [] current = record { left = []; current = current }
-
 -- the machine of an interval under `seq` that begins at an index, once it has followed the commands
 abbrev pub followed_in_sequence : EntryView → ℤ → ℕ → List Command → Followed SeqNet
 followed_in_sequence e from limit commands =
     follow seq_machine commands (begun_net e (before e from) limit (state_after e (before e from)).store)
 
--- What an interval did that ran in this version, from an index up to a limit, with these commands left at its start: the
--- commands are followed, and then the tasks step round robin until all have finished. No entry offers `any` or `pipe` yet.
-abbrev pub IsReplayed : Scheme → EntryView → ℤ → ℕ → List Command → Ran → Type 0
-IsReplayed Seq e from limit commands done =
+-- the same of an interval in this version, with so many workers, whose links hold so many messages
+abbrev pub IsReplayedIn : Scheme → ℕ → ℕ → EntryView → ℤ → ℕ → List Command → Ran → Type 0
+IsReplayedIn Seq workers capacity e from limit commands done =
     (end : SeqNet) × RunsOut seq_machine (followed_in_sequence e from limit commands).net end × (done ≡ ran_of end)
-IsReplayed Any e from limit commands done = ⊥
-IsReplayed Pipe e from limit commands done = ⊥
+IsReplayedIn Any workers capacity e from limit commands done = ⊥
+IsReplayedIn Pipe workers capacity e from limit commands done = ⊥
 
--- the commands that such an interval leaves
-abbrev pub left_by : Scheme → EntryView → ℤ → ℕ → List Command → List Command
-left_by Seq e from limit commands = (followed_in_sequence e from limit commands).left
-left_by Any e from limit commands = commands
-left_by Pipe e from limit commands = commands
+-- What an interval did that ran in this configuration, where a link holds so many messages, from an index up to a limit, with
+-- these commands left at its start: the commands are followed, and then the tasks step round robin until all have finished.
+-- No entry offers `any` or `pipe` yet.
+abbrev pub IsReplayed : ℕ → Config → EntryView → ℤ → ℕ → List Command → Ran → Type 0
+IsReplayed capacity config = IsReplayedIn config.scheme config.workers capacity
 
--- what is held behind an interval of this entry
-abbrev pub held_behind : Option EntryView → Interval → Held → Held
-held_behind None i held = held
-held_behind (Some e) i held =
-    let asked = held_asked held.left held.current in record {
-      left = left_by i.ran.scheme e i.from (limit_of e i.from i.asked.until) asked.left;
-      current = asked.current;
-    }
+-- the commands that an interval in this version leaves
+abbrev pub commands_left_in : Scheme → ℕ → ℕ → EntryView → ℤ → ℕ → List Command → List Command
+commands_left_in Seq workers capacity e from limit commands = (followed_in_sequence e from limit commands).left
+commands_left_in Any workers capacity e from limit commands = commands
+commands_left_in Pipe workers capacity e from limit commands = commands
 
--- what is held behind these intervals of these entries
-abbrev pub held_after : List EntryView → List Interval → Held → Held
-held_after es [] held = held
-held_after es (i ∷ is) held = held_after es is (held_behind (slice_get es (i.entry - 1)) i held)
+-- the commands that an interval in this configuration leaves
+abbrev pub commands_left : ℕ → Config → EntryView → ℤ → ℕ → List Command → List Command
+commands_left capacity config = commands_left_in config.scheme config.workers capacity
 
--- an interval of its entry did what the commands say that are held before it
-abbrev pub IsDriven : List EntryView → Held → Interval → Type 0
-IsDriven es held i =
+-- the commands of an interval: a `use` that comes first asks for it, and is taken before
+abbrev pub behind_use : List Command → List Command
+behind_use (Use config until ∷ rest) = rest
+behind_use (Step task moves ∷ rest) = Step task moves ∷ rest
+behind_use (Pause ∷ rest) = Pause ∷ rest
+behind_use [] = []
+
+-- the commands that are left behind an interval of this entry
+abbrev pub left_behind : ℕ → Option EntryView → Interval → List Command → List Command
+left_behind capacity None i commands = commands
+left_behind capacity (Some e) i commands = commands_left capacity i.ran e i.from (limit_of e i.from i.asked.until) (behind_use commands)
+
+-- the commands that are left behind these intervals of these entries
+abbrev pub left_after : ℕ → List EntryView → List Interval → List Command → List Command
+left_after capacity es [] commands = commands
+left_after capacity es (i ∷ is) commands = left_after capacity es is (left_behind capacity (slice_get es (i.entry - 1)) i commands)
+
+-- an interval of its entry did what the commands say that are left before it
+abbrev pub IsDriven : ℕ → List EntryView → List Command → Interval → Type 0
+IsDriven capacity es commands i =
     (e : EntryView) × (slice_get es (i.entry - 1) ≡ Some e)
-    × IsReplayed i.ran.scheme e i.from (limit_of e i.from i.asked.until) (held_asked held.left held.current).left i.done
+    × IsReplayed capacity i.ran e i.from (limit_of e i.from i.asked.until) (behind_use commands) i.done
 
--- each interval did what the commands say that are held before it
-abbrev pub AreDriven : List EntryView → Held → List Interval → Type 0
-AreDriven es held [] = Unit {0}
-AreDriven es held (i ∷ is) = IsDriven es held i × AreDriven es (held_behind (slice_get es (i.entry - 1)) i held) is
+-- each interval did what the commands say that are left before it
+abbrev pub AreDriven : ℕ → List EntryView → List Command → List Interval → Type 0
+AreDriven capacity es commands [] = Unit {0}
+AreDriven capacity es commands (i ∷ is) =
+    IsDriven capacity es commands i × AreDriven capacity es (left_behind capacity (slice_get es (i.entry - 1)) i commands) is
 
--- the intervals of a log are the first ones of the replay of a script, for the log's entries and requests
-abbrev pub IsReplayOf : List Command → LogView → Type 0
-IsReplayOf script log = AreDriven log.entries (held_first script) log.intervals
+-- the intervals of a log did what these commands say, one interval after another, whoever asked for them
+abbrev pub IsReplayOf : ℕ → List Command → LogView → Type 0
+IsReplayOf capacity commands log = AreDriven capacity log.entries commands log.intervals
 
--- what is held behind a log
-abbrev pub held_at : List Command → LogView → Held
-held_at script log = held_after log.entries log.intervals (held_first script)
+-- the commands that are left behind a log
+abbrev pub left_at : ℕ → List Command → LogView → List Command
+left_at capacity script log = left_after capacity log.entries log.intervals script
+
+-- what is asked for the next interval: what a `use` says that comes first, or the current configuration
+abbrev pub next_request : List Command → Config → Ask
+next_request (Use config until ∷ rest) current = record { config = config; until = until }
+next_request (Step task moves ∷ rest) current = record { config = current; until = None }
+next_request (Pause ∷ rest) current = record { config = current; until = None }
+next_request [] current = record { config = current; until = None }
+
+-- the current configuration behind these intervals of these entries: what each asked for that a `use` came before, or the
+-- one before
+abbrev pub current_after : ℕ → List EntryView → List Interval → List Command → Config → Config
+current_after capacity es [] commands current = current
+current_after capacity es (i ∷ is) commands current =
+    current_after capacity es is (left_behind capacity (slice_get es (i.entry - 1)) i commands) (next_request commands current).config
+
+-- the current configuration behind a log: one thread at first
+abbrev pub current_at : ℕ → List Command → LogView → Config
+current_at capacity script log = current_after capacity log.entries log.intervals script seq_one
 
 -- what a script asks for behind a log
-abbrev pub script_asks : List Command → LogView → Ask
-script_asks script log = let held = held_at script log in request_of held.left held.current
+abbrev pub script_asks : ℕ → List Command → LogView → Ask
+script_asks capacity script log = next_request (left_at capacity script log) (current_at capacity script log)
+
+-- The log of a replay, up to its last interval: it is legal, each request is the one that is asked for its entry behind the log
+-- so far, and each interval did what the commands say.
+pub record IsReplay (asks : EntryView → LogView → Ask) (capacity : ℕ) (commands : List Command) (es : List EntryView) (log : LogView) : Type 0 where
+  pub legal : IsLegalLog (λ e so_far ask. ask ≡ asks e so_far) es log
+  pub replayed : IsReplayOf capacity commands log
+
+-- the log of the replay of a script, which makes the requests too
+abbrev pub IsScriptReplay : ℕ → List Command → List EntryView → LogView → Type 0
+IsScriptReplay capacity script = IsReplay (λ e so_far. script_asks capacity script so_far) capacity script
 
 -- a script names a version in one of its commands
 abbrev pub UsesScheme : List Command → Scheme → Type 0
