@@ -7,7 +7,7 @@ ghost use Rattle.nona_check.specs.First.{first_from};
 
 use crate::fault::{note, note_where};
 use crate::scope::{Scope, is_input};
-use nona_tree::{Access, Expr, ProgramFault, Use};
+use nona_tree::{Access, Expr, Op, ProgramFault, Use};
 use sqlite_items::Boxed;
 use std::alloc::{AllocError, Global};
 
@@ -78,9 +78,159 @@ pub fn resolve_new(name: &Use, scope: &Scope, first: &mut Option<ProgramFault>) 
     name.with_id(scope.count())
 }
 
-/// An expression with its ids.
+/// A number, in a box.
+#[inline(never)]
+fn boxed_number(alloc: Global, value: i64) -> Result<Boxed<Expr>, AllocError>
+    ensures { IfOk result (λ e. e ≡ Expr.Number value) }
+{
+    Boxed::new(alloc, Expr::Number(value))
+}
+
+/// A scalar with its id, in a box.
+#[inline(never)]
+fn boxed_scalar(
+    alloc: Global,
+    name: &Use,
+    scope: &Scope,
+    first: &mut Option<ProgramFault>,
+) -> Result<Boxed<Expr>, AllocError>
+    ensures ids { IfOk result (λ e. e ≡ Expr.Scalar (scalar_ids name.now scope.now)) }
+    ensures faults { OnOk result (first.new ≡ first_from first.old (scalar_faults name.now scope.now)) }
+{
+    Boxed::new(alloc, Expr::Scalar(resolve_scalar(name, scope, first)))
+}
+
+/// The length of an array with its id, in a box.
+#[inline(never)]
+fn boxed_length(
+    alloc: Global,
+    array: &Use,
+    scope: &Scope,
+    first: &mut Option<ProgramFault>,
+) -> Result<Boxed<Expr>, AllocError>
+    ensures ids { IfOk result (λ e. e ≡ Expr.Len (array_ids array.now scope.now)) }
+    ensures faults { OnOk result (first.new ≡ first_from first.old (array_faults array.now scope.now)) }
+{
+    Boxed::new(alloc, Expr::Len(resolve_array(array, scope, first)))
+}
+
+/// `-value`, in a box.
+#[inline(never)]
+fn boxed_neg(alloc: Global, value: Boxed<Expr>) -> Result<Boxed<Expr>, AllocError>
+    ensures { IfOk result (λ e. e ≡ Expr.Neg value) }
+{
+    Boxed::new(alloc, Expr::Neg(value))
+}
+
+/// `!value`, in a box.
+#[inline(never)]
+fn boxed_not(alloc: Global, value: Boxed<Expr>) -> Result<Boxed<Expr>, AllocError>
+    ensures { IfOk result (λ e. e ≡ Expr.Not value) }
+{
+    Boxed::new(alloc, Expr::Not(value))
+}
+
+/// `left op right`, in a box.
+#[inline(never)]
+fn boxed_binary(
+    alloc: Global,
+    op: Op,
+    at: u32,
+    left: Boxed<Expr>,
+    right: Boxed<Expr>,
+) -> Result<Boxed<Expr>, AllocError>
+    ensures { IfOk result (λ e. e ≡ Expr.Binary op at left right) }
+{
+    let both = Expr::Binary {
+        op,
+        at,
+        left,
+        right,
+    };
+    Boxed::new(alloc, both)
+}
+
+/// An expression with its ids, in a box. An expression of 64 brackets with 64 operators in each is some 4,096 levels
+/// deep, so a level takes little of the stack here: what it makes is on the heap, and what is large is in a function of
+/// its own.
 #[cycle(expr)]
 #[tactic(auto, using(crate::proofs::Steps::expr_steps))]
+fn resolve_boxed(
+    alloc: Global,
+    expr: &Expr,
+    scope: &Scope,
+    first: &mut Option<ProgramFault>,
+) -> Result<Boxed<Expr>, AllocError>
+    ensures ids { IfOk result (λ e. e ≡ expr_ids expr.now scope.now) }
+    ensures faults { OnOk result (first.new ≡ first_from first.old (expr_faults expr.now scope.now)) }
+{
+    match expr {
+        Expr::Number(value) => boxed_number(alloc, *value),
+        Expr::Scalar(name) => boxed_scalar(alloc, name, scope, first),
+        Expr::Cell(place) => boxed_cell(alloc, place.get(), scope, first),
+        Expr::Len(array) => boxed_length(alloc, array, scope, first),
+        Expr::Neg(value) => {
+            let value = resolve_boxed(alloc, value.get(), scope, first)?;
+            boxed_neg(alloc, value)
+        }
+        Expr::Not(value) => {
+            let value = resolve_boxed(alloc, value.get(), scope, first)?;
+            boxed_not(alloc, value)
+        }
+        Expr::Binary {
+            op,
+            at,
+            left,
+            right,
+        } => {
+            let left = resolve_boxed(alloc, left.get(), scope, first)?;
+            let right = resolve_boxed(alloc, right.get(), scope, first)?;
+            boxed_binary(alloc, *op, *at, left, right)
+        }
+    }
+}
+
+/// A cell that is read with its ids, in a box.
+#[inline(never)]
+#[cycle(expr)]
+#[tactic(auto, using(crate::proofs::Steps::expr_steps))]
+fn boxed_cell(
+    alloc: Global,
+    place: &Access,
+    scope: &Scope,
+    first: &mut Option<ProgramFault>,
+) -> Result<Boxed<Expr>, AllocError>
+    ensures ids { IfOk result (λ e. e ≡ Expr.Cell (access_ids place.now scope.now)) }
+    ensures faults { OnOk result (first.new ≡ first_from first.old (array_faults place.now.array scope.now ++ expr_faults place.now.index scope.now)) }
+{
+    let place = resolve_access(alloc, place, scope, first)?;
+    Boxed::new(alloc, Expr::Cell(place))
+}
+
+/// A cell with its ids, in a box.
+#[inline(never)]
+#[cycle(expr)]
+#[tactic(auto, using(crate::proofs::Steps::expr_steps))]
+fn resolve_access(
+    alloc: Global,
+    place: &Access,
+    scope: &Scope,
+    first: &mut Option<ProgramFault>,
+) -> Result<Boxed<Access>, AllocError>
+    ensures ids { IfOk result (λ c. c ≡ access_ids place.now scope.now) }
+    ensures faults { OnOk result (first.new ≡ first_from first.old (array_faults place.now.array scope.now ++ expr_faults place.now.index scope.now)) }
+{
+    let array = resolve_array(&place.array, scope, first);
+    let index = resolve_boxed(alloc, &place.index, scope, first)?;
+    let resolved = Access {
+        array,
+        wrap: place.wrap,
+        index: index.into_inner(),
+    };
+    Boxed::new(alloc, resolved)
+}
+
+/// An expression with its ids.
 pub fn resolve_expr(
     alloc: Global,
     expr: &Expr,
@@ -90,59 +240,8 @@ pub fn resolve_expr(
     ensures ids { IfOk result (λ e. e ≡ expr_ids expr.now scope.now) }
     ensures faults { OnOk result (first.new ≡ first_from first.old (expr_faults expr.now scope.now)) }
 {
-    match expr {
-        Expr::Number(value) => Ok(Expr::Number(*value)),
-        Expr::Scalar(name) => Ok(Expr::Scalar(resolve_scalar(name, scope, first))),
-        Expr::Cell(place) => {
-            let place = resolve_access(alloc, place.get(), scope, first)?;
-            Ok(Expr::Cell(Boxed::new(alloc, place)?))
-        }
-        Expr::Len(name) => Ok(Expr::Len(resolve_array(name, scope, first))),
-        Expr::Neg(value) => {
-            let value = resolve_expr(alloc, value.get(), scope, first)?;
-            Ok(Expr::Neg(Boxed::new(alloc, value)?))
-        }
-        Expr::Not(value) => {
-            let value = resolve_expr(alloc, value.get(), scope, first)?;
-            Ok(Expr::Not(Boxed::new(alloc, value)?))
-        }
-        Expr::Binary {
-            op,
-            at,
-            left,
-            right,
-        } => {
-            let left = resolve_expr(alloc, left.get(), scope, first)?;
-            let right = resolve_expr(alloc, right.get(), scope, first)?;
-            Ok(Expr::Binary {
-                op: *op,
-                at: *at,
-                left: Boxed::new(alloc, left)?,
-                right: Boxed::new(alloc, right)?,
-            })
-        }
-    }
-}
-
-/// A cell that is read, with its ids.
-#[cycle(expr)]
-#[tactic(auto, using(crate::proofs::Steps::expr_steps))]
-fn resolve_access(
-    alloc: Global,
-    place: &Access,
-    scope: &Scope,
-    first: &mut Option<ProgramFault>,
-) -> Result<Access, AllocError>
-    ensures ids { IfOk result (λ c. c ≡ access_ids place.now scope.now) }
-    ensures faults { OnOk result (first.new ≡ first_from first.old (array_faults place.now.array scope.now ++ expr_faults place.now.index scope.now)) }
-{
-    let array = resolve_array(&place.array, scope, first);
-    let index = resolve_expr(alloc, &place.index, scope, first)?;
-    Ok(Access {
-        array,
-        wrap: place.wrap,
-        index,
-    })
+    let resolved = resolve_boxed(alloc, expr, scope, first)?;
+    Ok(resolved.into_inner())
 }
 
 /// A cell that is written, with its ids.

@@ -70,7 +70,7 @@ pub resolve_stmt-returns-in_ok-resolve_block-in-If-2-clause-faults : goal.resolv
 resolve_stmt-returns-in_ok-resolve_block-in-If-2-clause-faults t c =
     let b = c.in-If in
     let seen = c.args.scope.now in
-    let tested = c.resolve_expr-in-If.new.first in
+    let tested = c.resolve_expr.new.first in
     let then_first = c.resolve_block.new.first in
     let then_faults : then_first ≡ first_from tested (all_faults b.yes seen) =
     c.in_ok-resolve_block-in-If.ensures.faults ∙ ap (λ (ss : List Stmt). first_from tested (all_faults ss seen)) c.as_slice.ensures in
