@@ -5,7 +5,7 @@ use Rattle.morta_task.specs.LogView.{empty_log}
 use Rattle.parcae.specs.declared.refusal.Refusal.{Refusal}
 use Rattle.parcae.specs.declared.refusal.Stop.{Stop}
 use Rattle.parcae.specs.declared.refusal.Stop.TheVariants as stop
-use Rattle.parcae.specs.Looking.{Looked}
+use Rattle.fate_io.specs.Reading.{Looked}
 use Rattle.parcae.specs.Told.{Told}
 use Rattle.parcae.specs.Ends.{Way, Unbegun, Ends, GivesUp}
 use Rattle.parcae.specs.Files.{Stopped, refusing}

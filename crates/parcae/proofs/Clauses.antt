@@ -10,23 +10,25 @@ use Rattle.nona_store.specs.Input.{numbers_of}
 use Rattle.morta_task.specs.Entries.{EntryView}
 use Rattle.morta_task.specs.LogView.{LogView, empty_log}
 use Rattle.weave.specs.declared.script.Command.{Command as Order}
-use Rattle.morta_exec.specs.Lines.{number_lines}
-use Rattle.morta_text.specs.Texts.{log_text}
+use Rattle.weave.specs.Replay.{IsScriptReplay}
+use Rattle.parcae.specs.declared.replays.TheConstants.{CAPACITY}
+use Rattle.morta_text.specs.Texts.{number_lines, log_text}
 use Rattle.parcae.specs.declared.refusal.Refusal.{Refusal}
 use Rattle.parcae.specs.declared.refusal.Refusal.TheVariants as refusal
 use Rattle.parcae.specs.declared.refusal.Source.{Source}
 use Rattle.parcae.specs.declared.refusal.Source.TheVariants as source
 use Rattle.parcae.specs.declared.status.Status.TheVariants as status
 use Rattle.parcae.specs.Words.{Task, Command, seq, replay}
-use Rattle.parcae.specs.Looking.{Held, Outside, Looked, outside_of}
+use Rattle.fate_io.specs.Reading.{Held, Looked}
+use Rattle.fate_io.specs.Outside.{Outside, outside_of}
 use Rattle.parcae.specs.Codes.{code_of}
 use Rattle.parcae.specs.Texts.{refusal_line, refusal_status, full_line}
 use Rattle.parcae.specs.Told.{Told, bare, logged, finished, IsBare}
 use Rattle.parcae.specs.Ends.{Way, Whole, Ends, whole, write_failed, no_memory, unbegun}
 use Rattle.parcae.specs.Files.{limit_of, IsContent, IsLong, IsBad, failed, long, text, Refuses, GivesProgram, GivesInput, GivesScript}
-use Rattle.parcae.specs.Due.{where_asked, behind_numbers, entries_in, IsReplayed, DueOfSeq, DueOfDrive, DueOfCommand}
+use Rattle.parcae.specs.Due.{where_asked, behind_numbers, replay_image, entries_in, DueOfReplay, DueOfSeq, DueOfDrive, DueOfCommand}
 use Rattle.parcae.specs.Answers.{Answers, Holds, HoldsProgram, HoldsInput, HoldsScript}
-use Rattle.parcae.specs.Statuses.{OfEachCall, TellsFiles, named, Says, IsBrokenOff, TellsUsage, HasFault, TellsFault, HasFailedRead, TellsFailedRead, TellsFailedWrite, HasLongFile, TellsLongFile, HasFullLog, TellsFullLog, IsReplay, run_text, HasRunInSequence, HasReplayed, TellsMeaning}
+use Rattle.parcae.specs.Statuses.{OfEachCall, TellsFiles, named, Says, IsBrokenOff, TellsUsage, HasFault, TellsFault, HasFailedRead, TellsFailedRead, TellsFailedWrite, HasLongFile, TellsLongFile, HasFullLog, TellsFullLog, IsWholeReplay, run_text, HasRunInSequence, HasReplayed, TellsMeaning}
 use Rattle.parcae.proofs.Telling.{seq_whole, DriveWhole, is_ran, is_full, drive_whole, ended_code, Runs, WholeBy, by_words, by_file, by_run, whole_by, runs_code, Answered, answered, says_of, refused_code, fault_code, text_code, bad_code, one_source, held_content}
 
 -- a run has none of the statuses between
@@ -139,7 +141,7 @@ tells_failed command looked sent told answers = λ e.
 
 -- what is longer than its limit is held
 long_content : (src : Source) (held : Held) → IsSome held → IsLong src held → (bytes : List ℕ) × (held ≡ Some (Some bytes)) × (limit_of src < length bytes)
-long_content src None is l = absurd is
+long_content src None is l = cc
 long_content src (Some None) is l = absurd l
 long_content src (Some (Some b)) is l = (b, refl, l)
 
@@ -264,7 +266,7 @@ seq_by task looked sent told added printed later tells le sends (by_run (tree, n
 drive_by : (task : Task) (script : List ℕ) (log : Bool) (looked : Looked) (sent : Sent) (told : Told) (printed later : List ℕ) (tree : Program) (numbers : List ℤ) (commands : List Order)
     → code_of told.status ≤ 2 → Appends sent.before sent.after (printed ++ later)
     → HoldsProgram looked task.file tree → HoldsInput looked task.input numbers → HoldsScript looked script commands
-    → DriveWhole tree (entries_in tree numbers task.turns) (meaning_of tree numbers task.turns) (IsReplayed commands (entries_in tree numbers task.turns)) task.memory log told printed later
+    → DriveWhole tree (entries_in (replay_image tree) tree numbers task.turns) (meaning_of tree numbers task.turns) (IsScriptReplay CAPACITY commands (entries_in (replay_image tree) tree numbers task.turns)) task.memory log told printed later
     → HasReplayed task script log looked sent told
 drive_by task script log looked sent told printed later tree numbers commands le sends program input orders (is_ran l s ends er ep el) =
     let ran = meaning_of tree numbers task.turns in
@@ -275,7 +277,7 @@ drive_by task script log looked sent told printed later tree numbers commands le
       program = program;
       input = input;
       orders = orders;
-      replay = subst (λ (x : LogView). IsReplay commands (entries_in tree numbers task.turns) x) el2
+      replay = subst (λ (x : LogView). IsWholeReplay commands (entries_in (replay_image tree) tree numbers task.turns) x) el2
           (record { whole = record { legal = s.legal; ended = ends }; replayed = s.replayed });
       report = er ∙ ap (finished ran) el2;
       text = subst (λ (x : LogView). Appends sent.before sent.after (run_text tree ran task.memory (where_asked log (log_text x)))) el2

@@ -5,6 +5,7 @@ use Rattle.fate_io.specs.Causes.{Rose}
 use Rattle.fate_io.specs.Sending.{Sent}
 use Rattle.nona_tree.specs.declared.trees.Program.{Program}
 use Rattle.nona_store.specs.declared.input.InputFault.TheVariants as input
+use Rattle.nona_tree.specs.Run.{meaning_of}
 use Rattle.nona_store.specs.Input.{numbers_of}
 use Rattle.weave.specs.declared.script.Command.{Command as Order}
 use Rattle.morta_script.specs.Lines.{commands_of}
@@ -17,10 +18,11 @@ use Rattle.parcae.specs.declared.status.Status.TheVariants.{NoMemory}
 use Rattle.parcae.specs.Words.{Task, Command, seq, replay}
 use Rattle.parcae.specs.Told.{Told}
 use Rattle.parcae.specs.Accepted.{IsAccepted}
-use Rattle.parcae.specs.Looking.{Held, Outside, Looked, outside_of}
+use Rattle.fate_io.specs.Reading.{Held, Looked}
+use Rattle.fate_io.specs.Outside.{Outside, outside_of}
 use Rattle.parcae.specs.Ends.{Way, Whole, Unbegun, Ends, whole, write_failed, no_memory, unbegun}
 use Rattle.parcae.specs.Files.{limit_of, IsContent, IsLong, Refuses, IsBad, failed, long, text, RefusesInput, input_token, input_count, RefusesScript, script_line, GivesProgram, GivesInput, NoInput, GivesScript, DueOf, stops, starves, follows}
-use Rattle.parcae.specs.Due.{DueOfRun, DueOfReplay, DueOfCommand}
+use Rattle.parcae.specs.Due.{DueOfSeq, DueOfReplay, DueOfCommand}
 use Rattle.parcae.specs.Answers.{Answers, Holds, HoldsProgram, HoldsInput, HoldsScript, IsCalm, EndsWhole, IsComplete}
 use Rattle.parcae.proofs.Accepting.{one_accepted, not_refused}
 
@@ -116,7 +118,7 @@ only_script looked file commands h y g =
 -- what is due of a run of held files, where no read failed
 pub seq_due : ((bytes : List ℕ) → One bytes) → (task : Task) (looked : Looked) (tree : Program) (numbers : List ℤ) (added : List (List ℕ)) (way : Way)
     → added ≡ [] → HoldsProgram looked task.file tree → HoldsInput looked task.input numbers → way ≢ Unbegun empty_log
-    → DueOfCommand (outside_of looked) (Some (seq task)) added way → DueOfRun task tree numbers added way
+    → DueOfCommand (outside_of looked) (Some (seq task)) added way → (added ≡ []) × DueOfSeq tree (meaning_of tree numbers task.turns) task.memory way
 seq_due one task looked tree numbers added way none program inputs apart due =
     due_follows _ _ _ added way numbers (never_input looked task.input numbers added none inputs) (only_input looked task.input numbers inputs) apart
     (due_follows _ _ _ added way tree (never_program looked task.file tree added one none program) (only_program looked task.file tree one program) apart due)
@@ -124,14 +126,14 @@ seq_due one task looked tree numbers added way none program inputs apart due =
 -- what is due of a replay of held files, where no read failed
 pub replay_due : ((bytes : List ℕ) → One bytes) → (task : Task) (script : List ℕ) (log : Bool) (looked : Looked) (tree : Program) (numbers : List ℤ) (commands : List Order) (added : List (List ℕ)) (way : Way)
     → added ≡ [] → HoldsProgram looked task.file tree → HoldsInput looked task.input numbers → HoldsScript looked script commands → way ≢ Unbegun empty_log
-    → DueOfCommand (outside_of looked) (Some (replay task script log)) added way → DueOfReplay task log tree numbers commands added way
+    → DueOfCommand (outside_of looked) (Some (replay task script log)) added way → (added ≡ []) × DueOfReplay tree numbers commands task.turns task.memory log way
 replay_due one task script log looked tree numbers commands added way none program inputs scripts apart due =
     due_follows _ _ _ added way commands (never_script looked script commands added none scripts) (only_script looked script commands scripts) apart
     (due_follows _ _ _ added way numbers (never_input looked task.input numbers added none inputs) (only_input looked task.input numbers inputs) apart
     (due_follows _ _ _ added way tree (never_program looked task.file tree added one none program) (only_program looked task.file tree one program) apart due))
 
 -- a whole text is not nothing
-whole_apart : (told : Told) (printed later : List ℕ) (log : LogView) → Whole told printed later ≢ Unbegun log
+pub whole_apart : (told : Told) (printed later : List ℕ) (log : LogView) → Whole told printed later ≢ Unbegun log
 whole_apart told printed later log e = cc
 
 -- a call that answers is complete
@@ -140,11 +142,11 @@ pub completes : ((bytes : List ℕ) → One bytes) → (command : Option Command
 completes one None looked sent told (added, grown, e) = tt
 completes one (Some (seq task)) looked sent told (added, grown, e) = λ tree numbers program inputs calm.
     let none : added ≡ [] = none_added looked.failed_before added (sym calm.reads ∙ grown) in
-    let (printed, later, due, sends) = ends_whole _ sent told calm.puts calm.memory e in
-    let ran = seq_due one task looked tree numbers added _ none program inputs (whole_apart told printed later empty_log) due in
-    (printed, later, (refl, ran.1), sends)
+    let w = ends_whole _ sent told calm.puts calm.memory e in
+    let ran = seq_due one task looked tree numbers added _ none program inputs (whole_apart told w.0 w.1 empty_log) w.2 in
+    (w.0, w.1, ran.1, w.3)
 completes one (Some (replay task script log)) looked sent told (added, grown, e) = λ tree numbers commands program inputs scripts calm.
     let none : added ≡ [] = none_added looked.failed_before added (sym calm.reads ∙ grown) in
-    let (printed, later, due, sends) = ends_whole _ sent told calm.puts calm.memory e in
-    let ran = replay_due one task script log looked tree numbers commands added _ none program inputs scripts (whole_apart told printed later empty_log) due in
-    (printed, later, (refl, ran.1), sends)
+    let w = ends_whole _ sent told calm.puts calm.memory e in
+    let ran = replay_due one task script log looked tree numbers commands added _ none program inputs scripts (whole_apart told w.0 w.1 empty_log) w.2 in
+    (w.0, w.1, ran.1, w.3)

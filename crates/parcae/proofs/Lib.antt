@@ -6,3 +6,4 @@ pub mod Loading
 pub mod Replaying
 pub mod Telling
 pub mod Clauses
+pub mod Fronting

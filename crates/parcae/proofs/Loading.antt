@@ -14,7 +14,8 @@ use Rattle.parcae.specs.declared.refusal.Source.{Source}
 use Rattle.parcae.specs.declared.refusal.Kind.TheVariants as kind
 use Rattle.parcae.specs.declared.refusal.Stop.{Stop}
 use Rattle.parcae.specs.declared.refusal.Stop.TheVariants as stop
-use Rattle.parcae.specs.Looking.{Outside, Looked}
+use Rattle.fate_io.specs.Reading.{Looked}
+use Rattle.fate_io.specs.Outside.{Outside}
 use Rattle.parcae.specs.Refusing.{unread, faulty}
 use Rattle.parcae.specs.Files.{IsContent, Refuses, IsBad, text, RefusesProgram, program_text, Stopped, StopsText}
 

@@ -14,22 +14,24 @@ use Rattle.morta_task.specs.Entries.{EntryView}
 use Rattle.morta_task.specs.LogView.{LogView, empty_log}
 use Rattle.morta_task.specs.Legal.{EndsAll, last_in}
 use Rattle.weave.specs.declared.script.Command.{Command as Order}
-use Rattle.morta_exec.specs.Lines.{number_lines}
-use Rattle.morta_exec.specs.Course.{most}
-use Rattle.morta_text.specs.Texts.{log_text}
+use Rattle.weave.specs.Replay.{IsScriptReplay}
+use Rattle.parcae.specs.declared.replays.TheConstants.{CAPACITY}
+use Rattle.morta_text.specs.Texts.{number_lines, log_text}
+use Rattle.morta_exec.specs.Places.{most}
 use Rattle.parcae.specs.declared.refusal.Refusal.{Refusal}
 use Rattle.parcae.specs.declared.refusal.Refusal.TheVariants as refusal
 use Rattle.parcae.specs.declared.refusal.Source.{Source}
 use Rattle.parcae.specs.declared.refusal.Source.TheVariants as source
 use Rattle.parcae.specs.declared.status.Status.TheVariants as status
 use Rattle.parcae.specs.Words.{Task, Command, seq, replay}
-use Rattle.parcae.specs.Looking.{Held, Outside, Looked, outside_of}
+use Rattle.fate_io.specs.Reading.{Held, Looked}
+use Rattle.fate_io.specs.Outside.{Outside, outside_of}
 use Rattle.parcae.specs.Codes.{code_of}
 use Rattle.parcae.specs.Texts.{refusal_line, refusal_status, full_line}
 use Rattle.parcae.specs.Told.{Told, bare, logged, finished, status_of, IsBare}
 use Rattle.parcae.specs.Ends.{Way, Whole, Early, Unbegun, Breaks, within, behind, Ends, whole, write_failed, no_memory, unbegun}
 use Rattle.parcae.specs.Files.{limit_of, IsContent, IsBad, failed, long, text, Refuses, program_text, input_token, input_count, script_line, GivesProgram, GivesInput, NoInput, GivesScript, DueOf, stops, starves, follows}
-use Rattle.parcae.specs.Due.{where_asked, behind_numbers, entries_in, IsReplayed, DueOfSeq, seq_ran, seq_broken, seq_unbegun, DueOfDrive, drive_ran, drive_full, drive_broken, drive_unbegun, DueOfCommand}
+use Rattle.parcae.specs.Due.{where_asked, behind_numbers, replay_image, entries_in, DueOfReplay, DueOfSeq, seq_ran, seq_broken, seq_unbegun, DueOfDrive, drive_ran, drive_full, drive_broken, drive_unbegun, DueOfCommand}
 use Rattle.parcae.specs.Answers.{Answers, Holds, HoldsProgram, HoldsInput, HoldsScript, EndsWhole}
 use Rattle.parcae.specs.Statuses.{OfEachCall, TellsFiles, named, Says, IsBrokenOff, TellsUsage, TellsFault, TellsFailedRead, TellsFailedWrite, TellsLongFile, TellsFullLog}
 
@@ -50,8 +52,8 @@ pub data DriveWhole (tree : Program) (es : List EntryView) (ran : Ran) (stands :
 
 pub drive_whole : (tree : Program) (es : List EntryView) (ran : Ran) (stands : LogView → Type 0) (memory log : Bool) (way : Way) (report : Told) (printed later : List ℕ)
     → DueOfDrive tree es ran stands memory log way → way ≡ Whole report printed later → DriveWhole tree es ran stands memory log report printed later
-drive_whole tree es ran stands memory log way report printed later (drive_ran l s ends few) e = is_ran l s ends cc cc cc
-drive_whole tree es ran stands memory log way report printed later (drive_full l m s few next more) e = is_full l m few cc cc cc
+drive_whole tree es ran stands memory log way report printed later (drive_ran l s ends few) e = is_ran l s ends (cc) (cc) (cc)
+drive_whole tree es ran stands memory log way report printed later (drive_full l m s few next more) e = is_full l m few (cc) (cc) (cc)
 drive_whole tree es ran stands memory log way report printed later (drive_broken l m s few place more) e = cc
 drive_whole tree es ran stands memory log way report printed later drive_unbegun e = cc
 
@@ -59,12 +61,12 @@ drive_whole tree es ran stands memory log way report printed later drive_unbegun
 abbrev pub Runs : Looked → Told → List ℕ → List ℕ → Option Command → Type 0
 Runs looked report printed later None = ⊥
 Runs looked report printed later (Some (seq task)) =
-    (tree : Program) (numbers : List ℤ) × GivesProgram (outside_of looked) task.file tree × GivesInput (outside_of looked) task.input numbers
+    (tree : Program) × (numbers : List ℤ) × GivesProgram (outside_of looked) task.file tree × GivesInput (outside_of looked) task.input numbers
     × DueOfSeq tree (meaning_of tree numbers task.turns) task.memory (Whole report printed later)
 Runs looked report printed later (Some (replay task script log)) =
-    (tree : Program) (numbers : List ℤ) (commands : List Order) × GivesProgram (outside_of looked) task.file tree × GivesInput (outside_of looked) task.input numbers
+    (tree : Program) × (numbers : List ℤ) × (commands : List Order) × GivesProgram (outside_of looked) task.file tree × GivesInput (outside_of looked) task.input numbers
     × GivesScript (outside_of looked) script commands
-    × DueOfDrive tree (entries_in tree numbers task.turns) (meaning_of tree numbers task.turns) (IsReplayed commands (entries_in tree numbers task.turns)) task.memory log (Whole report printed later)
+    × DueOfReplay tree numbers commands task.turns task.memory log (Whole report printed later)
 
 -- why a whole text is due of a command: the words are none; one of its files is bad; or it runs
 pub data WholeBy (command : Option Command) (looked : Looked) (added : List (List ℕ)) (report : Told) (printed later : List ℕ) : Type 0 where
@@ -163,7 +165,7 @@ refused_code r told printed later w =
     ap (λ (t : Told). code_of t.status) e
 
 -- the status with which the text of a file is refused
-pub fault_code : Source → ℕ
+abbrev pub fault_code : Source → ℕ
 fault_code source.Program = 11
 fault_code source.Input = 12
 fault_code source.Script = 13
@@ -185,7 +187,7 @@ bad_code source.Input outside file added r (text bytes x e content (input_count 
 bad_code source.Script outside file added r (text bytes x e content (script_line n h)) = (omega arith, omega arith, λ (e : 13 ≡ 15). omega (arith, e), λ (e : 13 ≡ 16). omega (arith, e))
 
 -- two files' texts are refused with two statuses
-one_source : (a b : Source) → fault_code a ≡ fault_code b → a ≡ b
+pub one_source : (a b : Source) → fault_code a ≡ fault_code b → a ≡ b
 one_source source.Program source.Program e = refl
 one_source source.Program source.Input e = absurd (omega (arith, e))
 one_source source.Program source.Script e = absurd (omega (arith, e))
@@ -198,5 +200,5 @@ one_source source.Script source.Script e = refl
 
 -- what a shelf that tells its files says of a content
 pub held_content : (src : Source) (held : Held) (bytes : List ℕ) → IsSome held → IsContent src held bytes → held ≡ Some (Some bytes)
-held_content src None bytes is content = absurd is
+held_content src None bytes is content = cc
 held_content src (Some c) bytes is content = ap Some content.1

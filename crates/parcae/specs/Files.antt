@@ -15,7 +15,8 @@ use Rattle.parcae.specs.declared.refusal.Refusal.{Refusal}
 use Rattle.parcae.specs.declared.refusal.Refusal.TheVariants as refusal
 use Rattle.parcae.specs.declared.refusal.Stop.{Stop}
 use Rattle.parcae.specs.declared.refusal.Stop.TheVariants as stop
-use Rattle.parcae.specs.Looking.{Held, Outside, Looked}
+use Rattle.fate_io.specs.Reading.{Held, Looked}
+use Rattle.fate_io.specs.Outside.{Outside}
 use Rattle.parcae.specs.Texts.{refusal_line, refusal_status}
 use Rattle.parcae.specs.Told.{bare}
 use Rattle.parcae.specs.Accepted.{IsAccepted, IsRefused}

@@ -11,20 +11,20 @@ use Rattle.morta_task.specs.Entries.{EntryView}
 use Rattle.morta_task.specs.Legal.{IsWholeLog}
 use Rattle.weave.specs.declared.script.Command.{Command as Order}
 use Rattle.weave.specs.Replay.{script_asks, IsReplayOf}
-use Rattle.morta_exec.specs.Lines.{number_lines}
-use Rattle.morta_exec.specs.Course.{most}
-use Rattle.morta_text.specs.Texts.{log_text}
+use Rattle.parcae.specs.declared.replays.TheConstants.{CAPACITY}
+use Rattle.morta_text.specs.Texts.{number_lines, log_text}
+use Rattle.morta_exec.specs.Places.{most}
 use Rattle.parcae.specs.declared.refusal.Source.{Source}
 use Rattle.parcae.specs.declared.refusal.Source.TheVariants as source
 use Rattle.parcae.specs.declared.refusal.Refusal.{Refusal}
 use Rattle.parcae.specs.declared.refusal.Refusal.TheVariants as refusal
 use Rattle.parcae.specs.Words.{Task, Command, seq, replay}
 use Rattle.parcae.specs.Codes.{code_of}
-use Rattle.parcae.specs.Looking.{Looked}
+use Rattle.fate_io.specs.Reading.{Looked}
 use Rattle.parcae.specs.Texts.{refusal_line, refusal_status, full_line}
 use Rattle.parcae.specs.Told.{Told, bare, finished, IsBare}
 use Rattle.parcae.specs.Files.{limit_of, Refuses}
-use Rattle.parcae.specs.Due.{where_asked, behind_numbers, entries_in}
+use Rattle.parcae.specs.Due.{where_asked, behind_numbers, replay_image, entries_in}
 use Rattle.parcae.specs.Answers.{Answers, Holds, HoldsProgram, HoldsInput, HoldsScript}
 
 -- a statement is true of each call that answers
@@ -119,10 +119,11 @@ TellsFullLog command looked sent told = code_of told.status ≡ 18 → HasFullLo
 abbrev pub run_text : Program → Ran → Bool → List ℕ → List ℕ
 run_text tree ran memory log = number_lines ran.store.printed ++ behind_numbers tree ran memory log
 
--- a whole log of a run with these entries is the replay of these commands
-pub record IsReplay (commands : List Order) (es : List EntryView) (log : LogView) : Type 0 where
-  pub whole : IsWholeLog (λ e so_far ask. ask ≡ script_asks commands so_far) es log
-  pub replayed : IsReplayOf commands log
+-- the log of a whole run with these entries is the replay of a script: it is legal, each request is the script's, and each
+-- interval did what the script says
+pub record IsWholeReplay (commands : List Order) (es : List EntryView) (log : LogView) : Type 0 where
+  pub whole : IsWholeLog (λ e so_far ask. ask ≡ script_asks CAPACITY commands so_far) es log
+  pub replayed : IsReplayOf CAPACITY commands log
 
 -- A run in one thread ended: its program and its input are held, the report is that of its sequential meaning, and exactly
 -- its text was written.
@@ -142,7 +143,7 @@ pub record HasReplayed (task : Task) (script : List ℕ) (log : Bool) (looked : 
   pub program : HoldsProgram looked task.file tree
   pub input : HoldsInput looked task.input numbers
   pub orders : HoldsScript looked script commands
-  pub replay : IsReplay commands (entries_in tree numbers task.turns) told.log
+  pub replay : IsWholeReplay commands (entries_in (replay_image tree) tree numbers task.turns) told.log
   pub report : told ≡ finished (meaning_of tree numbers task.turns) told.log
   pub text : Appends sent.before sent.after (run_text tree (meaning_of tree numbers task.turns) task.memory (where_asked log (log_text told.log)))
 

@@ -9,7 +9,7 @@ use Rattle.nona_tree.specs.declared.outcomes.Outcome.TheVariants as outcome
 use Rattle.nona_tree.specs.Memory.{Memory}
 use Rattle.nona_tree.specs.Run.{Ran}
 use Rattle.morta_task.specs.LogView.{LogView, empty_log}
-use Rattle.morta_exec.specs.declared.driving.Ended.{Ended}
+use Rattle.nona_store.specs.declared.ended.Ended.{Ended}
 use Rattle.parcae.specs.declared.status.Status.{Status}
 use Rattle.parcae.specs.declared.status.Status.TheVariants as status
 use Rattle.parcae.specs.declared.report.Report.{Report}

@@ -1,5 +1,6 @@
-ghost use Rattle.std.specs.Prelude.{◌≡◌, ◌≤◌, ◌^◌, length, Ok, IfOk, IfErr, OnOk};
+ghost use Rattle.std.specs.Prelude.{◌≡◌, ◌≤◌, ◌^◌, length, All, Ok, IfOk, IfErr, OnOk};
 ghost use Rattle.std.specs.Option.{option_copied};
+ghost use Rattle.nona_tree.specs.Numbers.{IsI64};
 ghost use Rattle.nona_store.specs.Input.{number_bound, numbers_of};
 ghost use Rattle.morta_script.specs.Lines.{commands_of};
 ghost use Rattle.weave.specs.Following.{AreCommands};
@@ -8,9 +9,8 @@ ghost use Rattle.parcae.specs.Refusing.{unread, faulty};
 ghost use Rattle.parcae.specs.declared.refusal.Source.TheVariants as source;
 ghost use Rattle.parcae.specs.declared.refusal.Refusal.TheVariants as refusal;
 ghost use Rattle.parcae.specs.declared.refusal.Stop.TheVariants as stop;
-ghost use Rattle.parcae.specs.Looking.{looked_since};
-ghost use Rattle.parcae.specs.Files.{seen, limit_of, IsContent, IsBad, RefusesProgram, RefusesInput, RefusesScript};
-ghost use Rattle.parcae.specs.Files.{GivesProgram, GivesInput, NoInput, GivesScript, Stopped, StopsText};
+ghost use Rattle.fate_io.specs.Reading.{looked_since};
+ghost use Rattle.parcae.specs.Files.{seen, limit_of, IsContent, IsBad, RefusesProgram, RefusesInput, RefusesScript, GivesProgram, GivesInput, NoInput, GivesScript, Stopped, StopsText};
 
 use crate::refusal::{Kind, Refusal, Source, Stop};
 use fate_io::{Shelf, ShelfFault};
@@ -151,6 +151,7 @@ fn numbers_in(alloc: Global, text: &[u8]) -> Result<Vec<i64>, Stop>
     requires { length text.now ≤ 2 ^ 25 }
     ensures numbers { IfOk result (λ numbers. numbers_of text.now ≡ Ok numbers.items) }
     ensures few { IfOk result (λ numbers. length numbers.items ≤ number_bound) }
+    ensures kept { IfOk result (λ numbers. All IsI64 numbers.items) }
     ensures refused { IfErr result (StopsText (RefusesInput text.now)) }
 {
     match read_numbers(alloc, text) {
@@ -171,6 +172,7 @@ pub fn input_in<S: Shelf>(
     ensures read { OnOk result (S.failed shelf.new ≡ S.failed shelf.old) }
     ensures gives { IfOk result (λ numbers. GivesInput (seen S.held shelf.old) (option_copied file.entry) numbers.items) }
     ensures few { IfOk result (λ numbers. length numbers.items ≤ number_bound) }
+    ensures kept { IfOk result (λ numbers. All IsI64 numbers.items) }
     ensures none { IfErr result (Stopped (NoInput (seen S.held shelf.old) (option_copied file.entry)) (looked_since S.held S.failed shelf.old shelf.new)) }
 {
     match file {

@@ -1,7 +1,6 @@
 //! What each status of a call tells, in words of the files that are held, the meaning of programs and what was written.
 ghost use Rattle.parcae.specs.declared.refusal.Source.TheVariants as source;
-ghost use Rattle.parcae.specs.Statuses.{OfEachCall, TellsUsage, TellsFault, TellsFailedRead, TellsFailedWrite};
-ghost use Rattle.parcae.specs.Statuses.{TellsLongFile, TellsFullLog, TellsMeaning, TellsFront};
+ghost use Rattle.parcae.specs.Statuses.{OfEachCall, TellsUsage, TellsFault, TellsFailedRead, TellsFailedWrite, TellsLongFile, TellsFullLog, TellsMeaning, TellsFront};
 
 use nona_parse::reads_one_tree;
 

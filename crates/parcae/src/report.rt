@@ -3,9 +3,8 @@ ghost use Rattle.parcae.specs.Told.{status_of, told_of, ran_of, bare, logged, fi
 
 use crate::status::Status;
 use fate_io::SendFault;
-use morta_exec::Ended;
 use morta_task::Log;
-use nona_store::Store;
+use nona_store::{Ended, Store};
 use nona_tree::Outcome;
 use std::alloc::Global;
 

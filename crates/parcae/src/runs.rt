@@ -1,10 +1,10 @@
-ghost use Rattle.std.specs.Prelude.{◌≡◌, ◌<◌, ◌≤◌, ◌+◌, ◌^◌, ℕ, ℤ, List, length};
-ghost use Rattle.fate_io.specs.Sending.{Sends};
+ghost use Rattle.std.specs.Prelude.{◌≡◌, ◌<◌, ◌≤◌, ◌+◌, ◌^◌, ℕ, ℤ, List, length, All};
+ghost use Rattle.fate_io.specs.Sending.{Sends, sent_since};
 ghost use Rattle.nona_tree.specs.declared.trees.Program.{Program};
 ghost use Rattle.nona_tree.specs.Checking.{IsChecked};
+ghost use Rattle.nona_tree.specs.Numbers.{IsI64};
 ghost use Rattle.nona_tree.specs.Run.{meaning_of};
 ghost use Rattle.nona_store.specs.Input.{number_bound};
-ghost use Rattle.morta_exec.specs.Puts.{sent_since};
 ghost use Rattle.morta_text.specs.Texts.{memory_text, log_text};
 ghost use Rattle.parcae.specs.Told.{told_of, ran_of, finished};
 ghost use Rattle.parcae.specs.Ends.{Ends, SendsReport};
@@ -13,10 +13,9 @@ ghost use Rattle.parcae.specs.Due.{where_asked, behind_numbers, DueOfSeq};
 use crate::report::{Report, bare, broken_status, finished, once_sent};
 use crate::status::Status;
 use fate_io::{SendFault, Sink};
-use morta_exec::{Ended, put_numbers};
 use morta_task::Log;
-use morta_text::{send_log, send_memory, send_outcome};
-use nona_store::Store;
+use morta_text::{put_numbers, send_log, send_memory, send_outcome};
+use nona_store::{Ended, Store};
 use nona_tree::{Checked, Program, lengths_stay, scalars_stay};
 use nona_walk::run_checked;
 use std::alloc::Global;
@@ -133,7 +132,8 @@ pub fn run_in_sequence<K: Sink>(
     memory: bool,
     out: &mut K,
 ) -> Report
-    requires { length input.items ≤ number_bound }
+    requires few { length input.items ≤ number_bound }
+    requires numbers { All IsI64 input.items }
     ensures { Ends (DueOfSeq program.now (meaning_of program.now input.items turns) memory) (sent_since K.written K.faults out.old out.new) (told_of result) }
 {
     declared_stays();
@@ -144,10 +144,6 @@ pub fn run_in_sequence<K: Sink>(
                     turns,
                     memory,
                     log: false,
-                };
-                let run = Ended {
-                    outcome: run.outcome,
-                    store: run.store,
                 };
                 finish(alloc, program.program(), run, Log::new(alloc), asked, out)
             }

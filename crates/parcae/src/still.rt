@@ -1,10 +1,10 @@
 ghost use Rattle.std.specs.Prelude.{◌≡◌, ◌≤◌, map, string_bytes, Some};
 ghost use Rattle.parcae.specs.Told.{told_of};
-ghost use Rattle.morta_exec.specs.Puts.{sent_since};
+ghost use Rattle.fate_io.specs.Sending.{sent_since};
 ghost use Rattle.parcae.specs.declared.words.TheConstants.{TURN_LIMIT};
 ghost use Rattle.parcae.specs.Words.{seq, replay, meant};
 ghost use Rattle.parcae.specs.Meant.{task_of};
-ghost use Rattle.parcae.specs.Looking.{looked_since};
+ghost use Rattle.fate_io.specs.Reading.{looked_since};
 ghost use Rattle.parcae.specs.Answers.{Answers, IsComplete};
 
 use crate::files::{input_in, program_in, script_in};

@@ -2,7 +2,7 @@ use Rattle.std.proofs.Common.{refl, subst, ◌∙◌, Some, List, ℕ}
 use Rattle.parcae.specs.declared.refusal.Source.TheVariants as source
 use Rattle.parcae.specs.Meant.{task_of}
 use Rattle.parcae.specs.Words.{replay}
-use Rattle.parcae.specs.Looking.{Held, looked_since}
+use Rattle.fate_io.specs.Reading.{Held, looked_since}
 use Rattle.parcae.specs.Files.{seen, IsBad, GivesInput, NoInput, GivesScript, Stopped, stops, starves, follows}
 use Rattle.parcae.specs.Due.{DueOfCommand}
 use Rattle.parcae.proofs.Answering.{stopped_answer, whole_answer}
