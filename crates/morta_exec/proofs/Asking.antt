@@ -4,16 +4,20 @@ use Rattle.std.specs.declared.option.Option.{Option}
 use Rattle.std.specs.Int.{int_gap}
 use Rattle.std.proofs.lemmas.List.{length-take-le}
 use Rattle.std.proofs.lemmas.Option.{slice_get_within}
+use Rattle.nona_tree.specs.declared.plans.Plan.{Plan}
+use Rattle.nona_tree.specs.declared.trees.Loop.{Loop}
+use Rattle.morta_task.specs.declared.regions.RegionCode.{RegionCode}
 use Rattle.morta_task.specs.declared.schemes.Scheme.{Scheme}
 use Rattle.morta_task.specs.declared.schemes.Scheme.TheVariants.{Seq, Any, Pipe}
 use Rattle.morta_task.specs.declared.schemes.Config.{Config}
 use Rattle.morta_task.specs.declared.intervals.Handoff.{Handoff}
 use Rattle.morta_task.specs.ImageView.{ImageView}
-use Rattle.morta_task.specs.Entries.{EntryView, has_stages, offers, last}
+use Rattle.morta_task.specs.Entries.{EntryView, IsEntered, has_stages, offers, last}
 use Rattle.morta_task.specs.LogView.{LogView, IsAtHand, last_one, next_one}
 use Rattle.morta_task.specs.Promise.{Promise, Keeps}
 use Rattle.morta_task.specs.Running.{IsConfig, seq_one, chosen, limited, limit_of, IsIn, IsHandoff, MayRun}
-use Rattle.morta_exec.specs.Course.{has, ServesAll}
+use Rattle.morta_exec.specs.Began.{Began}
+use Rattle.morta_exec.specs.Log.{has, ServesAll}
 use Rattle.morta_exec.specs.Standing.{IsOfRun, KeptFor}
 use Rattle.morta_exec.proofs.Growing.{front_is, take_next}
 
@@ -54,29 +58,37 @@ config_by : (e : EntryView) (c : Config) (b : Bool) → IsConfig c → IsConfig 
 config_by e c true is = is
 config_by e c false is = refl
 
+-- the loop and the plan of a region are those of its entry
+served_as : {M : Type 0} (promise : Promise M) (m : M) (e : EntryView) (code : RegionCode) (s : Scheme) → code.looped ≡ e.looped → code.plan ≡ e.plan
+    → promise.serves m code.looped code.plan s → promise.serves m e.looped e.plan s
+served_as promise m e code s looped plan h =
+    subst (λ (p : Plan). promise.serves m e.looped p s) plan (subst (λ (l : Loop). promise.serves m l code.plan s) looped h)
+
 served_by : {M : Type 0} (promise : Promise M) (first now : M) (image : ImageView) (e : EntryView) (c : Config) (b : Bool)
-    → ServesAll promise first image → IsIn e image → e.any ≡ e.plan.any → e.pipe ≡ has_stages e.plan → Keeps promise first now → promise.names first c.scheme
+    → ServesAll promise first image → IsIn e image → IsEntered e → Keeps promise first now → promise.names first c.scheme
     → offers e c.scheme ≡ b → promise.serves now e.looped e.plan (if b then c else seq_one).scheme
-served_by promise first now image e c true serves region any pipe keeps names is =
+served_by promise first now image e c true serves region entered keeps names is =
+    let has_it : has region.code.plan c.scheme ≡ true = ap (λ (p : Plan). has p c.scheme) region.plan ∙ sym (offers_has e c.scheme entered.any entered.pipe) ∙ is in
     (keeps.serves e.looped e.plan c.scheme).0
-    (serves (e.region - 1) _ c.scheme region.1 (inr (names, sym (offers_has e c.scheme any pipe) ∙ is)))
-served_by promise first now image e c false serves region any pipe keeps names is =
-    (keeps.serves e.looped e.plan Seq).0 (serves (e.region - 1) _ Seq region.1 (inl refl))
+    (served_as promise first e region.code c.scheme region.looped region.plan (serves (e.region - 1) region.code c.scheme region.there (inr (names, has_it))))
+served_by promise first now image e c false serves region entered keeps names is =
+    (keeps.serves e.looped e.plan Seq).0
+    (served_as promise first e region.code Seq region.looped region.plan (serves (e.region - 1) region.code Seq region.there (inl refl)))
 
 limited_le : (count : ℕ) (until : Option ℕ) → limited count until ≤ count
 limited_le count None = omega arith
 limited_le count (Some most) = omega arith
 
 -- what is chosen for a request may be run, up to the limit of that request
-pub may_run : {M : Type 0} (promise : Promise M) (es : List EntryView) (first now : M) (image : ImageView) (e : EntryView) (h : Handoff) (asked c : Config) (until : Option ℕ) (limit : ℕ)
-    → ServesAll promise first image → IsOfRun image es e → Keeps promise first now → promise.names first asked.scheme → IsConfig asked → IsHandoff e h
+pub may_run : {M : Type 0} (promise : Promise M) (b : Began M) (now : M) (e : EntryView) (h : Handoff) (asked c : Config) (until : Option ℕ) (limit : ℕ)
+    → ServesAll promise b.first b.image → IsOfRun b e → Keeps promise b.first now → promise.names b.first asked.scheme → IsConfig asked → IsHandoff e h
     → c ≡ chosen e asked → limit ≡ limit_of e h.next until
-    → MayRun (promise.serves now) image e h c limit
-may_run promise es first now image e h asked c until limit serves of keeps names is_config state is_c is_limit = record {
+    → MayRun (promise.serves now) b.image e h c limit
+may_run promise b now e h asked c until limit serves of keeps names is_config state is_c is_limit = record {
   entered = of.entered;
   region = of.region;
   served = subst (λ (k : Config). promise.serves now e.looped e.plan k.scheme) (sym is_c)
-      (served_by promise first now image e asked (offers e asked.scheme) serves of.region of.any of.pipe keeps names refl);
+      (served_by promise b.first now b.image e asked (offers e asked.scheme) serves of.region of.entered keeps names refl);
   offered = subst (λ (k : Config). IsTrue (offers e k.scheme)) (sym is_c) (offered_by e asked (offers e asked.scheme) refl);
   workers = subst IsConfig (sym is_c) (config_by e asked (offers e asked.scheme) is_config);
   state = state;

@@ -2,43 +2,51 @@
 use Rattle.std.proofs.Common.{◌≡◌, ℕ, ◌+◌, ◌-◌, ◌≤◌, ℤ, List, [], ◌∷◌, ◌++◌, length, refl, sym, ◌∙◌, ap, subst, arith, None, Some, slice_get}
 use Rattle.std.specs.declared.option.Option.{Option}
 use Rattle.std.proofs.lemmas.List.{append-nil}
+use Rattle.std.proofs.lemmas.List.Concat.{flat_map-append}
+use Rattle.fate_io.specs.Putting.{AppendsFront}
 use Rattle.fate_io.specs.Sending.{Sent, BreaksOff}
 use Rattle.fate_io.specs.declared.sending.SendFault.{SendFault}
 use Rattle.nona_tree.specs.declared.outcomes.Outcome.{Outcome}
 use Rattle.nona_tree.specs.declared.trees.Loop.{Loop}
 use Rattle.nona_tree.specs.declared.trees.Stmt.{For}
 use Rattle.nona_tree.specs.Memory.{Memory, Extends}
-use Rattle.nona_tree.specs.Run.{Ran, run, run_all}
+use Rattle.nona_tree.specs.Run.{Ran, run}
 use Rattle.nona_tree.proofs.Keeps.{MorePrinted, printed_kept, run_kept}
 use Rattle.nona_main.specs.declared.frame.Stop.{Stop}
 use Rattle.nona_main.specs.declared.frame.Stop.TheVariants as stop
 use Rattle.nona_main.specs.Course.{Course}
 use Rattle.nona_main.specs.Frame.{Stops, opened}
+use Rattle.morta_task.specs.declared.opening.Opening.{Opening}
 use Rattle.morta_task.specs.declared.regions.RegionCode.{RegionCode}
 use Rattle.morta_task.specs.declared.intervals.Interval.{Interval}
-use Rattle.morta_task.specs.ImageView.{ImageView}
-use Rattle.morta_task.specs.Entries.{EntryView, entered, plan_of, numbered, numbered_from, entries_of}
+use Rattle.morta_task.specs.Entries.{EntryView, entered, plan_of, numbered, numbered_from}
 use Rattle.morta_task.specs.LogView.{LogView}
 use Rattle.morta_task.specs.Promise.{Promise}
 use Rattle.morta_task.specs.Legal.{entry_number, begun, last_in, EndsAll}
 use Rattle.morta_exec.specs.declared.fault.DriveFault.TheVariants.{NoMemory}
-use Rattle.morta_exec.specs.Lines.{number_lines}
-use Rattle.morta_exec.specs.Course.{ClosedBy, IsBehind, before_entry, at_end}
+use Rattle.morta_text.specs.Texts.{number_line, number_lines}
+use Rattle.morta_exec.specs.Began.{Began, entries_in, run_in}
+use Rattle.morta_exec.specs.Places.{ClosedBy, ComesBehind, before_entry, at_end}
 use Rattle.morta_exec.specs.Faults.{fault_of}
 use Rattle.morta_exec.specs.Puts.{HasPut}
 use Rattle.morta_exec.specs.EntryRun.{Stopped}
-use Rattle.morta_exec.specs.MainRun.{Between, HasRun}
+use Rattle.morta_exec.specs.MainRun.{Between, HasRun, to_come}
 use Rattle.morta_exec.proofs.Stopping.{stops_sending}
 
 -- what is left of a run where a frame stands prints what was printed
 abbrev pub Prints : (Ran → Course → Type 0) → Type 0
 Prints left = (r : Ran) (course : Course) → left r course → Extends r.store.printed course.ran.store.printed
 
+-- how an entry opens
+abbrev pub opening : ℕ → ℕ → ℤ → ℤ → Opening
+opening number region low high = record { number = number; region = region; low = low; high = high }
+
 -- the entry to a region with this code
 pub numbered_is : (regions : List RegionCode) (n k number : ℕ) (looped : Loop) (low high : ℤ) (m : Memory) (code : RegionCode)
-    → slice_get regions (number - 1) ≡ Some code → looped ≡ code.looped → numbered regions n k (opened number looped low high m) ≡ entered k number code low high n m
+    → slice_get regions (number - 1) ≡ Some code → looped ≡ code.looped
+    → numbered regions n k (opened number looped low high m) ≡ entered (opening k number low high) code.looped code.plan n m
 numbered_is regions n k number looped low high m code found same =
-    λ i. entered k number (record { looped = same i; plan = plan_of (found i) }) low high n m
+    λ i. entered (opening k number low high) (same i) (plan_of (found i)) n m
 
 pub next_at : {A : Type 0} (xs : List A) (x : A) (ys : List A) → slice_get (xs ++ (x ∷ ys)) (length xs) ≡ Some x
 next_at [] x ys = refl
@@ -54,64 +62,70 @@ ends_by es listed None all count closed = all ∙ append-nil listed ∙ none lis
 ends_by es listed (Some i) all count closed = (count ∙ sym (ap length (all ∙ append-nil listed)), λ h. closed)
 
 -- a run that came to this stop is behind the intervals of its log, and what is printed there is printed in the end
-pub at_stop : {M : Type 0} (promise : Promise M) (left later : Ran → Course → Type 0) (image : ImageView) (n : ℕ) (from : Memory) (first now : M) (m r : Memory) (log : LogView) (sent : Sent) (stop : Stop)
-    → Prints later → (b : Between promise left image n from first now m log sent) → Stops later b.rest n stop r
-    → IsBehind (entries_of image n from) (run_all image.main n from).store log.intervals r × Extends r.printed (run_all image.main n from).store.printed
-at_stop promise left later image n from first now m r log sent (stop.Region number low high) prints b at =
-    let es = entries_of image n from in
-    let e = numbered image.regions n (length log.entries + 1) (opened number at.looped low high r) in
-    let to_come : es ≡ log.entries ++ (e ∷ numbered_from image.regions n (length log.entries + 1 + 1) at.rest.entries) =
-    b.to_come ∙ ap (λ (c : Course). log.entries ++ numbered_from image.regions n (length log.entries + 1) c.entries) at.whole in
-    let named : slice_get es (begun log.intervals) ≡ Some e =
-    (λ i. slice_get (to_come i) (b.stands.begun i)) ∙ next_at log.entries e _ in
-    let whole : at.rest.ran ≡ run_all image.main n from = sym (ap (λ (c : Course). c.ran) at.whole) ∙ b.ran in (
-      before_entry e b.closed named,
-      printed_kept.order.chain r (run (For at.looped) n r).store (run_all image.main n from).store
+pub at_stop : {M : Type 0} (promise : Promise M) (left later : Ran → Course → Type 0) (b : Began M) (now : M) (m r : Memory) (log : LogView) (stop : Stop)
+    → Prints later → (w : Between promise left b now m log) → Stops later w.rest b.from.turns stop r
+    → ComesBehind (entries_in b) (run_in b).store log.intervals r × Extends r.printed (run_in b).store.printed
+at_stop promise left later b now m r log (stop.Region number low high) prints w at =
+    let n = b.from.turns in
+    let e = numbered b.image.regions n (length log.entries + 1) (opened number at.looped low high r) in
+    let comes : entries_in b ≡ log.entries ++ (e ∷ to_come b (length log.entries + 1 + 1) at.rest) =
+    w.comes ∙ ap (λ (c : Course). log.entries ++ to_come b (length log.entries + 1) c) at.whole in
+    let named : slice_get (entries_in b) (begun log.intervals) ≡ Some e =
+    (λ i. slice_get (comes i) (w.stands.begun i)) ∙ next_at log.entries e _ in
+    let whole : at.rest.ran ≡ run_in b = sym (ap (λ (c : Course). c.ran) at.whole) ∙ w.ran in (
+      before_entry e w.closed named,
+      printed_kept.order.chain r (run (For at.looped) n r).store (run_in b).store
           (run_kept MorePrinted printed_kept (For at.looped) n r)
           (subst (λ (x : Ran). Extends (run (For at.looped) n r).store.printed x.store.printed) whole (prints (run (For at.looped) n r) at.rest at.goes_on)),
     )
-at_stop promise left later image n from first now m r log sent (stop.Ended end) prints b at =
-    let es = entries_of image n from in
-    let none : es ≡ log.entries ++ [] = b.to_come ∙ ap (λ (c : Course). log.entries ++ numbered_from image.regions n (length log.entries + 1) c.entries) at in
-    let here : (run_all image.main n from).store ≡ r = ap (λ (x : Ran). x.store) (sym b.ran ∙ ap (λ (c : Course). c.ran) at) in
-    let all = ends_by es log.entries (last_in log.intervals) none b.stands.begun b.closed in (
-      subst (λ (x : Memory). IsBehind es (run_all image.main n from).store log.intervals x) here (at_end all),
-      subst (λ (x : Memory). Extends x.printed (run_all image.main n from).store.printed) here (printed_kept.order.same (run_all image.main n from).store),
+at_stop promise left later b now m r log (stop.Ended end) prints w at =
+    let es = entries_in b in
+    let none : es ≡ log.entries ++ [] = w.comes ∙ ap (λ (c : Course). log.entries ++ to_come b (length log.entries + 1) c) at in
+    let here : (run_in b).store ≡ r = ap (λ (x : Ran). x.store) (sym w.ran ∙ ap (λ (c : Course). c.ran) at) in
+    let all = ends_by es log.entries (last_in log.intervals) none w.stands.begun w.closed in (
+      subst (λ (x : Memory). ComesBehind es (run_in b).store log.intervals x) here (at_end all),
+      subst (λ (x : Memory). Extends x.printed (run_in b).store.printed) here (printed_kept.order.same (run_in b).store),
     )
 
 -- the sink broke off at the numbers of the main statements
-pub stopped_main : {M : Type 0} (promise : Promise M) (left later : Ran → Course → Type 0) (image : ImageView) (n : ℕ) (from : Memory) (first now : M) (m r : Memory) (log : LogView) (sent new : Sent) (stop : Stop) (fault : SendFault)
-    → Prints later → (b : Between promise left image n from first now m log sent) → Stops later b.rest n stop r
+pub stopped_main : {M : Type 0} (promise : Promise M) (left later : Ran → Course → Type 0) (b : Began M) (now : M) (m r : Memory) (log : LogView) (new : Sent) (stop : Stop) (fault : SendFault)
+    → Prints later → (w : Between promise left b now m log) → Stops later w.rest b.from.turns stop r
     → BreaksOff new (number_lines r.printed) fault → new.faults_before ≤ new.faults
-    → Stopped promise image n from first log new (fault_of fault)
-stopped_main promise left later image n from first now m r log sent new stop fault prints b at broken later_faults =
-    let here = at_stop promise left later image n from first now m r log sent stop prints b at in
+    → Stopped promise b log new (fault_of fault)
+stopped_main promise left later b now m r log new stop fault prints w at broken later_faults =
+    let here = at_stop promise left later b now m r log stop prints w at in
     record {
-      log_stands = b.stands.so_far;
-      few = b.few;
+      log_stands = w.stands.so_far;
       later = later_faults;
-      stops = stops_sending (entries_of image n from) (run_all image.main n from).store r log.intervals new fault here.0 broken here.1;
+      stops = stops_sending (entries_in b) (run_in b).store r log.intervals new fault (record { few = w.behind.few; comes = here.0 }) broken here.1;
     }
 
+-- the lines of the first numbers are a front of all lines
+front_put : (sent : Sent) (xs ys : List ℤ) → Extends xs ys → HasPut sent xs → AppendsFront sent.before sent.after (number_lines ys)
+front_put sent xs ys h put = (number_lines xs, number_lines h.0, ap number_lines h.1 ∙ flat_map-append number_line xs h.0, put.put)
+
 -- memory ran out in the main statements
-pub stopped_memory_main : {M : Type 0} (promise : Promise M) (left : Ran → Course → Type 0) (image : ImageView) (n : ℕ) (from : Memory) (first now : M) (m : Memory) (log : LogView) (sent : Sent)
-    → Between promise left image n from first now m log sent → Stopped promise image n from first log sent NoMemory
-stopped_memory_main promise left image n from first now m log sent b = record {
-  log_stands = b.stands.so_far;
-  few = b.few;
-  later = omega (arith, b.has_put.kept);
-  stops = b.stops;
+pub stopped_memory_main : {M : Type 0} (promise : Promise M) (left : Ran → Course → Type 0) (b : Began M) (now : M) (m : Memory) (log : LogView) (sent : Sent)
+    → Between promise left b now m log → HasPut sent m.printed → Stopped promise b log sent NoMemory
+stopped_memory_main promise left b now m log sent w put = record {
+  log_stands = w.stands.so_far;
+  later = omega (arith, put.kept);
+  stops = record {
+    place = w.place;
+    behind = w.behind;
+    put = front_put sent m.printed w.place.printed w.from_here put;
+    printed = w.printed;
+    cause = tt;
+  };
 }
 
 -- the run is at its end with the main statements
-pub run_ended : {M : Type 0} (promise : Promise M) (left later : Ran → Course → Type 0) (image : ImageView) (n : ℕ) (from : Memory) (first now : M) (m r : Memory) (log : LogView) (sent new : Sent) (end : Outcome)
-    → (b : Between promise left image n from first now m log sent) → Stops later b.rest n (stop.Ended end) r → HasPut new r.printed
-    → HasRun promise image n from first log new r end
-run_ended promise left later image n from first now m r log sent new end b at put = record {
-  reaches = sym b.ran ∙ ap (λ (c : Course). c.ran) at;
-  log_stands = b.stands.so_far;
-  whole = ends_by (entries_of image n from) log.entries (last_in log.intervals)
-      (b.to_come ∙ ap (λ (c : Course). log.entries ++ numbered_from image.regions n (length log.entries + 1) c.entries) at) b.stands.begun b.closed;
-  few = b.few;
-  has_put = put;
+pub run_ended : {M : Type 0} (promise : Promise M) (left later : Ran → Course → Type 0) (b : Began M) (now : M) (m r : Memory) (log : LogView) (end : Outcome)
+    → (w : Between promise left b now m log) → Stops later w.rest b.from.turns (stop.Ended end) r → HasRun promise b log r end
+run_ended promise left later b now m r log end w at = record {
+  reaches = sym w.ran ∙ ap (λ (c : Course). c.ran) at;
+  log_stands = w.stands.so_far;
+  whole = ends_by (entries_in b) log.entries (last_in log.intervals)
+      (w.comes ∙ ap (λ (c : Course). log.entries ++ to_come b (length log.entries + 1) c) at) w.stands.begun w.closed;
+  few = w.behind.few;
 }

@@ -4,8 +4,8 @@ use Rattle.nona_tree.specs.declared.outcomes.Outcome.{Outcome}
 use Rattle.nona_tree.specs.declared.outcomes.Outcome.TheVariants as outcome
 use Rattle.nona_tree.specs.declared.outcomes.Trap.{Trap as Trapped}
 use Rattle.nona_tree.specs.Memory.{Memory}
-use Rattle.nona_tree.specs.Run.{Ran, done}
-use Rattle.nona_walk.specs.Reached.{Reaches}
+use Rattle.nona_tree.specs.Run.{Ran, done, Reaches}
+use Rattle.nona_tree.specs.declared.trees.Loop.{Loop}
 use Rattle.morta_task.specs.declared.regions.RegionCode.{RegionCode}
 use Rattle.morta_task.specs.declared.schemes.Config.{Config}
 use Rattle.morta_task.specs.declared.intervals.Cut.{Cut}
@@ -30,9 +30,8 @@ too_few k j m n a b h = grind arith
 pub place_of : (image : ImageView) (e : EntryView) (region : ℕ) (code : RegionCode) → IsIn e image → region ≡ e.region
     → slice_get image.regions (region - 1) ≡ Some code → e.looped.at ≡ code.looped.at
 place_of image e region code is same found =
-    let both : Some (record { looped = e.looped; plan = e.plan }) ≡ Some code =
-    sym is.1 ∙ ap (λ r. slice_get image.regions (r - 1)) (sym same) ∙ found in
-    ap (λ (c : RegionCode). c.looped.at) (some_same _ _ both)
+    let one : is.code ≡ code = some_same is.code code (sym is.there ∙ ap (λ r. slice_get image.regions (r - 1)) (sym same) ∙ found) in
+    ap (λ (l : Loop). l.at) (sym is.looped) ∙ ap (λ (c : RegionCode). c.looped.at) one
 
 -- a run goes on behind a cut that is neither a trap nor want of turns
 pub cut_goes_on : (cut : Cut) → ((t : Trapped) → cut ≡ Trap t → ⊥) → ((at : ℕ) → cut ≡ Turns at → ⊥) → GoesOnBehind cut

@@ -11,4 +11,3 @@ pub mod Onward
 pub mod Printing
 pub mod Starting
 pub mod Driven
-pub mod Samples

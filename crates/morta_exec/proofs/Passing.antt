@@ -6,21 +6,21 @@ use Rattle.fate_io.specs.Sending.{Sent, BreaksOff}
 use Rattle.fate_io.specs.declared.sending.SendFault.{SendFault}
 use Rattle.nona_tree.specs.declared.outcomes.Outcome.{Outcome}
 use Rattle.nona_tree.specs.Memory.{Memory, Extends}
-use Rattle.nona_tree.specs.Run.{Ran, run_all, done}
+use Rattle.nona_tree.specs.Run.{Ran, done}
 use Rattle.nona_tree.proofs.Keeps.{printed_kept}
 use Rattle.morta_task.specs.declared.intervals.Interval.{Interval}
 use Rattle.morta_task.specs.declared.intervals.Handoff.{Handoff}
-use Rattle.morta_task.specs.ImageView.{ImageView}
-use Rattle.morta_task.specs.Entries.{EntryView, IsWithin, entries_of, before, state_after}
+use Rattle.morta_task.specs.Entries.{EntryView, IsWithin, before, state_after}
 use Rattle.morta_task.specs.LogView.{LogView}
 use Rattle.morta_task.specs.Promise.{Promise}
 use Rattle.morta_task.specs.Running.{IsHandoff, limit_of}
 use Rattle.morta_task.specs.Legal.{ComesNext, last_in}
-use Rattle.morta_exec.specs.Lines.{number_lines}
-use Rattle.morta_exec.specs.Course.{most, IsBehind, after_interval}
+use Rattle.morta_text.specs.Texts.{number_lines}
+use Rattle.morta_exec.specs.Began.{Began, entries_in, run_in}
+use Rattle.morta_exec.specs.Places.{most, ComesBehind, after_interval}
 use Rattle.morta_exec.specs.Faults.{fault_of}
 use Rattle.morta_exec.specs.Puts.{HasPut}
-use Rattle.morta_exec.specs.Standing.{Stands, HasTurned}
+use Rattle.morta_exec.specs.Standing.{Stands, HasRunInterval}
 use Rattle.morta_exec.specs.EntryRun.{whole_loop, EndsWith, GoesOnAt, Stopped, IsOn}
 use Rattle.morta_exec.proofs.Growing.{last_more}
 use Rattle.morta_exec.proofs.Loops.{after_prints, loop_prints}
@@ -34,11 +34,11 @@ front_of xs ys h = ap (take (length xs)) h.1 ∙ take_at xs h.0 (length xs) refl
 length_of : (xs ys : List ℤ) → Extends xs ys → length xs ≤ length ys
 length_of xs ys h = omega (arith, ap length h.1, length-append xs h.0)
 
-pub last_turned : (e : EntryView) (from : ℤ) (old new : LogView) (k : Handoff) (i : Interval) → HasTurned e from old new k i → last_in new.intervals ≡ Some i
-last_turned e from old new k i t = ap last_in t.added ∙ last_more old.intervals i
+pub last_run : (e : EntryView) (from : ℤ) (old new : LogView) (k : Handoff) (i : Interval) → HasRunInterval e from old new k i → last_in new.intervals ≡ Some i
+last_run e from old new k i t = ap last_in t.added ∙ last_more old.intervals i
 
 -- an interval only adds to what is printed
-pub interval_prints : (e : EntryView) (h k : Handoff) (old new : LogView) (i : Interval) → IsHandoff e h → HasTurned e h.next old new k i → Extends h.store.printed k.store.printed
+pub interval_prints : (e : EntryView) (h k : Handoff) (old new : LogView) (i : Interval) → IsHandoff e h → HasRunInterval e h.next old new k i → Extends h.store.printed k.store.printed
 interval_prints e h k old new i state t =
     let on : before e h.next ≤ before e i.done.to = subst (λ z. before e z ≤ before e i.done.to) t.begins t.done.begins in
     subst (λ (r : Ran). Extends r.store.printed k.store.printed) state.state
@@ -54,46 +54,49 @@ shown_front xs ys sent shown same on put = (
 )
 
 -- what is printed behind an interval is printed in the end
-pub leads_on : (image : ImageView) (n : ℕ) (m : Memory) (e : EntryView) (from : ℤ) (old new : LogView) (k : Handoff) (i : Interval)
-    → IsOn image n m e → HasTurned e from old new k i → Extends k.store.printed (run_all image.main n m).store.printed
-leads_on image n m e from old new k i on t =
-    printed_kept.order.chain k.store (whole_loop e).store (run_all image.main n m).store
+leads_on : {M : Type 0} (b : Began M) (e : EntryView) (from : ℤ) (old new : LogView) (k : Handoff) (i : Interval)
+    → IsOn b e → HasRunInterval e from old new k i → Extends k.store.printed (run_in b).store.printed
+leads_on b e from old new k i on t =
+    printed_kept.order.chain k.store (whole_loop e).store (run_in b).store
     (subst (λ (r : Memory). Extends r.printed (whole_loop e).store.printed) (sym t.hands_on.store) (loop_prints e (before e i.done.to) on.of_run.entered t.done.within.1))
     on.leads
 
 -- the place behind an interval
-pub behind_turn : (es : List EntryView) (end : Memory) (e : EntryView) (from : ℤ) (old new : LogView) (k : Handoff) (i : Interval)
-    → slice_get es (e.number - 1) ≡ Some e → HasTurned e from old new k i → IsBehind es end new.intervals k.store
-behind_turn es end e from old new k i named t =
-    subst (λ (m : Memory). IsBehind es end new.intervals m) (sym t.hands_on.store)
-    (after_interval i e (last_turned e from old new k i t) (ap (λ n. slice_get es (n - 1)) t.number ∙ named))
+pub behind_interval : (es : List EntryView) (end : Memory) (e : EntryView) (from : ℤ) (old new : LogView) (k : Handoff) (i : Interval)
+    → slice_get es (e.number - 1) ≡ Some e → HasRunInterval e from old new k i → ComesBehind es end new.intervals k.store
+behind_interval es end e from old new k i named t =
+    subst (λ (m : Memory). ComesBehind es end new.intervals m) (sym t.hands_on.store)
+    (after_interval i e (last_run e from old new k i t) (ap (λ n. slice_get es (n - 1)) t.number ∙ named))
 
-pub added_one : (e : EntryView) (from : ℤ) (old new : LogView) (k : Handoff) (i : Interval) → HasTurned e from old new k i → length new.intervals ≡ length old.intervals + 1
+pub added_one : (e : EntryView) (from : ℤ) (old new : LogView) (k : Handoff) (i : Interval) → HasRunInterval e from old new k i → length new.intervals ≡ length old.intervals + 1
 added_one e from old new k i t = ap length t.added ∙ length-append old.intervals (i ∷ [])
 
 -- the sink broke off at the lines of an interval
-pub stopped_turn : {M : Type 0} (promise : Promise M) (image : ImageView) (n : ℕ) (m : Memory) (first now : M) (e : EntryView) (from : ℤ) (old new : LogView) (k : Handoff) (i : Interval) (sent : Sent) (fault : SendFault)
-    → IsOn image n m e → Stands promise (entries_of image n m) first now new → HasTurned e from old new k i → length old.intervals < most
+pub stopped_interval : {M : Type 0} (promise : Promise M) (b : Began M) (now : M) (e : EntryView) (from : ℤ) (old new : LogView) (k : Handoff) (i : Interval) (sent : Sent) (fault : SendFault)
+    → IsOn b e → Stands promise b now new → HasRunInterval e from old new k i → length old.intervals < most
     → BreaksOff sent (number_lines k.store.printed) fault → sent.faults_before ≤ sent.faults
-    → Stopped promise image n m first new sent (fault_of fault)
-stopped_turn promise image n m first now e from old new k i sent fault on stands t room broken later = record {
+    → Stopped promise b new sent (fault_of fault)
+stopped_interval promise b now e from old new k i sent fault on stands t room broken later = record {
   log_stands = stands.so_far;
-  few = omega (arith, room, added_one e from old new k i t);
   later = later;
-  stops = stops_sending (entries_of image n m) (run_all image.main n m).store k.store new.intervals sent fault
-      (behind_turn (entries_of image n m) (run_all image.main n m).store e from old new k i on.of_run.named t) broken (leads_on image n m e from old new k i on t);
+  stops = stops_sending (entries_in b) (run_in b).store k.store new.intervals sent fault
+      (record {
+        few = omega (arith, room, added_one e from old new k i t);
+        comes = behind_interval (entries_in b) (run_in b).store e from old new k i on.of_run.named t;
+      })
+      broken (leads_on b e from old new k i on t);
 }
 
 -- behind an interval the entry goes on, or its loop has ended
-pub goes_on_at : {M : Type 0} (promise : Promise M) (es : List EntryView) (first now : M) (e : EntryView) (from : ℤ) (old new : LogView) (k : Handoff) (i : Interval) (end : Option Outcome)
-    → slice_get es (e.number - 1) ≡ Some e → Stands promise es first now new → HasTurned e from old new k i → EndsWith e i end → GoesOnAt promise es first now e new k end
-goes_on_at promise es first now e from old new k i None named stands t (short, on) = record {
+pub goes_on_at : {M : Type 0} (promise : Promise M) (b : Began M) (now : M) (e : EntryView) (from : ℤ) (old new : LogView) (k : Handoff) (i : Interval) (end : Option Outcome)
+    → slice_get (entries_in b) (e.number - 1) ≡ Some e → Stands promise b now new → HasRunInterval e from old new k i → EndsWith e i end → GoesOnAt promise b now e new k end
+goes_on_at promise b now e from old new k i None named stands t (short, on) = record {
   stands = stands;
   state = record {
     within = subst (IsWithin e) (sym t.hands_on.next) t.done.within;
     state = ap (λ z. state_after e (before e z)) t.hands_on.next ∙ here ∙ ap (λ (m : Memory). done m) (sym t.hands_on.store);
   };
-  next = subst (λ last. ComesNext es last e k.next) (sym (last_turned e from old new k i t)) (inl (record {
+  next = subst (λ last. ComesNext (entries_in b) last e k.next) (sym (last_run e from old new k i t)) (inl (record {
     same = t.number;
     joins = t.hands_on.next;
     short = short;
@@ -104,17 +107,17 @@ goes_on_at promise es first now e from old new k i None named stands t (short, o
   here : state_after e (before e i.done.to) ≡ done (state_after e (before e i.done.to)).store
   here = ap (λ (o : Outcome). let r : Ran = record { store = (state_after e (before e i.done.to)).store; end = o } in r)
       (cut_done e i.ran (before e i.from) (limit_of e i.from i.asked.until) (before e i.done.to) i.done.cut on t.done.cut)
-goes_on_at promise es first now e from old new k i (Some end) named stands t (reaches, all, on) = record {
+goes_on_at promise b now e from old new k i (Some end) named stands t (reaches, all, on) = record {
   stands = stands;
   reaches = subst (λ (m : Memory). whole_loop e ≡ record { store = m; end = end }) (sym t.hands_on.store) reaches;
   counted = t.counted;
   interval = i;
-  is_last = last_turned e from old new k i t;
+  is_last = last_run e from old new k i t;
   number = t.number;
   state = t.hands_on.store;
   closed = λ h. record {
     entry = e;
-    named = ap (λ n. slice_get es (n - 1)) t.number ∙ named;
+    named = ap (λ n. slice_get (entries_in b) (n - 1)) t.number ∙ named;
     whole = all h;
     goes_on = h;
   };

@@ -6,12 +6,13 @@ use Rattle.std.specs.Int.{int_gap}
 use Rattle.nona_tree.specs.declared.outcomes.Trap.{Trap}
 use Rattle.nona_tree.specs.declared.outcomes.Outcome.{Outcome}
 use Rattle.nona_tree.specs.declared.outcomes.Outcome.TheVariants as outcome
+use Rattle.nona_tree.specs.declared.trees.Loop.{Loop}
 use Rattle.nona_tree.specs.declared.trees.Stmt.{Stmt, Let, Set, Fold, Put, FoldPut, If', While', For', Print, Row_of-Stmt, end_of-Stmt, more_of-Stmt, items-the_row-Stmt}
 use Rattle.nona_tree.specs.Memory.{Memory, declare}
 use Rattle.nona_tree.specs.Value.{Answer, is_zero, value_of}
 use Rattle.nona_tree.specs.Run.{Ran, done, starved, with_value, then_from, block, turn, while_turns, first_turns, for_turns, run, run_row, run_all}
 use Rattle.nona_tree.specs.Beside.{on_ok, on_end, while_gives, first_give}
-use Rattle.nona_tree.specs.Entries.{Opened, is_region, loop_with, count_in, count_row, entries, entries_row, entries_all}
+use Rattle.nona_tree.specs.Entries.{Opened, loop_with, count_in, count_row, entries, entries_row, entries_all}
 use Rattle.nona_tree.proofs.Keeps.{IsPreorder, MorePrinted, printed_kept, kept_then, kept_if, kept_while, kept_for, row_kept, all_kept}
 
 order : IsPreorder MorePrinted
@@ -79,33 +80,33 @@ are_in_loop true r o os h g = (h, tt)
 are_in_loop false r o os h g = g
 
 mutual
-  entries_in : (s : Stmt) (first n : ℕ) (m : Memory) → AreIn (run s n m).store (entries first s n m)
-  entries_in (Let x e) first n m = tt
-  entries_in (Set x e) first n m = tt
-  entries_in (Fold x f e) first n m = tt
-  entries_in (Put c e) first n m = tt
-  entries_in (FoldPut c f e) first n m = tt
-  entries_in (Print e at) first n m = tt
-  entries_in (If' test p then_part q else_part) first n m =
+  entries_in : (chosen : Loop → Bool) (s : Stmt) (first n : ℕ) (m : Memory) → AreIn (run s n m).store (entries chosen first s n m)
+  entries_in chosen (Let x e) first n m = tt
+  entries_in chosen (Set x e) first n m = tt
+  entries_in chosen (Fold x f e) first n m = tt
+  entries_in chosen (Put c e) first n m = tt
+  entries_in chosen (FoldPut c f e) first n m = tt
+  entries_in chosen (Print e at) first n m = tt
+  entries_in chosen (If' test p then_part q else_part) first n m =
       are_in_value (value_of test m) m _ _ (λ v. are_in_if (is_zero v) _ _ (block (run_row else_part n) m) (block (run_row then_part n) m)
-      (row_in else_part (first + count_row then_part) n m) (row_in then_part first n m))
-  entries_in (While' test p body at) first n m =
-      are_in_while at (value_of test) (block (run_row body n)) (entries_row first body n) (λ x. row_in body first n x) (λ x. row_kept MorePrinted printed_kept body n x) n m
-  entries_in (For' x low high p body seq at) first n m =
+      (row_in chosen else_part (first + count_row chosen then_part) n m) (row_in chosen then_part first n m))
+  entries_in chosen (While' test p body at) first n m =
+      are_in_while at (value_of test) (block (run_row body n)) (entries_row chosen first body n) (λ x. row_in chosen body first n x) (λ x. row_kept MorePrinted printed_kept body n x) n m
+  entries_in chosen (For' x low high p body seq at) first n m =
       are_in_value (value_of low m) m _ _ (λ a. are_in_value (value_of high m) m _ _ (λ b.
-      are_in_loop (is_region (loop_with x low high (items-the_row-Stmt _ body) seq at)) (for_turns at (turn (run_row body n)) a (int_gap a b) n m) _ _
+      are_in_loop (chosen (loop_with x low high (items-the_row-Stmt _ body) seq at)) (for_turns at (turn (run_row body n)) a (int_gap a b) n m) _ _
       (kept_for MorePrinted order at (turn (run_row body n)) a (λ i r. row_kept MorePrinted printed_kept body n (declare i r)) (int_gap a b) n m)
-      (are_in_for at (turn (run_row body n)) (λ i r. entries_row first body n (declare i r)) a (λ i r. row_in body first n (declare i r)) (λ i r. row_kept MorePrinted printed_kept body n (declare i r)) (int_gap a b) n m)))
+      (are_in_for at (turn (run_row body n)) (λ i r. entries_row chosen first body n (declare i r)) a (λ i r. row_in chosen body first n (declare i r)) (λ i r. row_kept MorePrinted printed_kept body n (declare i r)) (int_gap a b) n m)))
 
-  row_in : {k : _} (row : Row_of-Stmt k) (first n : ℕ) (m : Memory) → AreIn (run_row row n m).store (entries_row first row n m)
-  row_in end_of-Stmt first n m = tt
-  row_in (more_of-Stmt s rest) first n m =
-      are_in_from (run s n m).store (run s n m).end (run_row rest n) (entries first s n m) (entries_row (first + count_in s) rest n)
-      (entries_in s first n m) (λ x. row_in rest (first + count_in s) n x) (λ x. row_kept MorePrinted printed_kept rest n x)
+  row_in : {k : _} (chosen : Loop → Bool) (row : Row_of-Stmt k) (first n : ℕ) (m : Memory) → AreIn (run_row row n m).store (entries_row chosen first row n m)
+  row_in chosen end_of-Stmt first n m = tt
+  row_in chosen (more_of-Stmt s rest) first n m =
+      are_in_from (run s n m).store (run s n m).end (run_row rest n) (entries chosen first s n m) (entries_row chosen (first + count_in chosen s) rest n)
+      (entries_in chosen s first n m) (λ x. row_in chosen rest (first + count_in chosen s) n x) (λ x. row_kept MorePrinted printed_kept rest n x)
 
 -- what is printed where a run comes to a region is printed in the end
-pub entries_print : (ss : List Stmt) (first n : ℕ) (m : Memory) → AllByRecursion (λ o. MorePrinted o.store (run_all ss n m).store) (entries_all first ss n m)
-entries_print [] first n m = tt
-entries_print (s ∷ rest) first n m =
-    are_in_from (run s n m).store (run s n m).end (run_all rest n) (entries first s n m) (entries_all (first + count_in s) rest n)
-    (entries_in s first n m) (λ x. entries_print rest (first + count_in s) n x) (λ x. all_kept MorePrinted printed_kept rest n x)
+pub entries_print : (chosen : Loop → Bool) (ss : List Stmt) (first n : ℕ) (m : Memory) → AllByRecursion (λ o. MorePrinted o.store (run_all ss n m).store) (entries_all chosen first ss n m)
+entries_print chosen [] first n m = tt
+entries_print chosen (s ∷ rest) first n m =
+    are_in_from (run s n m).store (run s n m).end (run_all rest n) (entries chosen first s n m) (entries_all chosen (first + count_in chosen s) rest n)
+    (entries_in chosen s first n m) (λ x. entries_print chosen rest (first + count_in chosen s) n x) (λ x. all_kept MorePrinted printed_kept rest n x)

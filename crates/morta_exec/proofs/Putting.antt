@@ -8,7 +8,7 @@ use Rattle.std.proofs.lemmas.List.Concat.{flat_map-append}
 use Rattle.fate_io.specs.Sending.{Sends}
 use Rattle.fate_io.specs.declared.sending.SendFault.{SendFault}
 use Rattle.fate_io.proofs.Texts.{sends_both}
-use Rattle.morta_exec.specs.Lines.{number_line, number_lines}
+use Rattle.morta_text.specs.Texts.{number_line, number_lines}
 use Rattle.morta_exec.specs.Puts.{HasPut}
 
 lines_split : (shown : ℕ) (xs : List ℤ) → number_lines (take shown xs) ++ number_lines (drop shown xs) ≡ number_lines xs

@@ -1,27 +1,30 @@
 -- Before the first entry of a run.
-use Rattle.std.proofs.Common.{◌≡◌, ℕ, List, [], ◌∷◌, refl, sym, ap, subst, arith, zero-add, None, Some}
+use Rattle.std.proofs.Common.{◌≡◌, ℕ, ℤ, List, [], ◌∷◌, ◌++◌, refl, sym, ap, subst, arith, zero-add, None, Some}
 use Rattle.std.specs.declared.option.Option.{Option}
 use Rattle.std.specs.Io.KnownBytes.{Appends}
 use Rattle.std.specs.List.{AllByRecursion}
 use Rattle.std.proofs.KnownBytes.{Appends-nil}
 use mathlib.Core.Path.{fun_ext}
 use Rattle.fate_io.specs.Putting.{AppendsFront}
-use Rattle.nona_tree.specs.Memory.{Memory}
-use Rattle.nona_tree.specs.Run.{Ran, run_all, done}
+use Rattle.nona_tree.specs.Memory.{Memory, Extends}
+use Rattle.nona_tree.specs.Run.{Ran, done}
 use Rattle.nona_tree.specs.Entries.{Opened, entries_all}
 use Rattle.nona_tree.proofs.Keeps.{MorePrinted, printed_kept}
 use Rattle.nona_tree.proofs.Regions.{entries_of_regions}
 use Rattle.nona_main.specs.Course.{Course, course_of}
 use Rattle.morta_task.specs.declared.regions.RegionCode.{RegionCode}
-use Rattle.morta_task.specs.ImageView.{ImageView}
-use Rattle.morta_task.specs.Entries.{EntryView, numbered, numbered_from, entries_of}
+use Rattle.morta_task.specs.ImageView.{is_region_of}
+use Rattle.morta_task.specs.Entries.{EntryView, numbered, numbered_from}
 use Rattle.morta_task.specs.LogView.{LogView, empty_log}
 use Rattle.morta_task.specs.Promise.{Promise, StandsOnly}
 use Rattle.morta_exec.specs.declared.fault.DriveFault.TheVariants.{NoMemory}
-use Rattle.morta_exec.specs.Lines.{number_lines}
-use Rattle.morta_exec.specs.Course.{AreTold, before_entry, at_end}
+use Rattle.morta_text.specs.Texts.{number_lines}
+use Rattle.morta_exec.specs.Began.{Began, entries_in, run_in}
+use Rattle.morta_exec.specs.Log.{AreTold}
+use Rattle.morta_exec.specs.Places.{ComesBehind, IsBehind, before_entry, at_end}
 use Rattle.morta_exec.specs.Drive.{StopsShort}
 use Rattle.morta_exec.specs.Standing.{AreLeft, Stands}
+use Rattle.morta_exec.specs.Puts.{HasPut}
 use Rattle.morta_exec.specs.MainRun.{Between}
 use Rattle.morta_exec.proofs.Asking.{keeps_same}
 use Rattle.morta_exec.proofs.Printing.{entries_print}
@@ -37,63 +40,80 @@ all_left (Some f) = ap (λ (g : ℕ → ℕ). Some g) (fun_ext (λ j. ap f (sym 
 nothing_put : (w : Option (List ℕ)) (text : List ℕ) → AppendsFront w w text
 nothing_put w text = ([], text, refl, Appends-nil w)
 
--- a run that stops before its first interval stops where its first entry begins, or at its end where it has none
-stops_first : (regions : List RegionCode) (n : ℕ) (end : Memory) (os : List Opened) (w : Option (List ℕ)) (f g : ℕ)
-    → AllByRecursion (λ o. MorePrinted o.store end) os
-    → StopsShort (numbered_from regions n 1 os) end [] (record { before = w; after = w; faults_before = f; faults = g }) NoMemory
-stops_first regions n end [] w f g prints = record {
+-- the place that a run with these entries and this end comes to first
+record First (es : List EntryView) (end : Memory) : Type 0 where
+  place : Memory
+  behind : IsBehind es end [] place
+  printed : Extends place.printed end.printed
+
+-- where its first entry begins, or at its end where it has none
+first_place : (regions : List RegionCode) (n : ℕ) (end : Memory) (os : List Opened) → AllByRecursion (λ o. MorePrinted o.store end) os → First (numbered_from regions n 1 os) end
+first_place regions n end [] prints = record {
   place = end;
-  behind = at_end refl;
-  put = nothing_put w (number_lines end.printed);
+  behind = record { few = omega arith; comes = at_end refl };
   printed = printed_kept.order.same end;
-  cause = tt;
 }
-stops_first regions n end (o ∷ os) w f g prints = record {
+first_place regions n end (o ∷ os) prints = record {
   place = o.store;
-  behind = before_entry (numbered regions n 1 o) tt refl;
-  put = nothing_put w (number_lines o.store.printed);
+  behind = record { few = omega arith; comes = before_entry (numbered regions n 1 o) tt refl };
   printed = prints.0;
-  cause = tt;
 }
 
-pub stops_before : (image : ImageView) (n : ℕ) (m : Memory) (log : LogView) (w : Option (List ℕ)) (f : ℕ)
-    → log ≡ empty_log → StopsShort (entries_of image n m) (run_all image.main n m).store log.intervals (record { before = w; after = w; faults_before = f; faults = f }) NoMemory
-stops_before image n m log w f empty =
-    subst (λ (l : LogView). StopsShort (entries_of image n m) (run_all image.main n m).store l.intervals (record { before = w; after = w; faults_before = f; faults = f }) NoMemory) (sym empty)
-    (stops_first image.regions n (run_all image.main n m).store (entries_all 1 image.main n m) w f f (entries_print image.main 1 n m))
+first_in : {M : Type 0} (b : Began M) → First (entries_in b) (run_in b).store
+first_in b = first_place b.image.regions b.from.turns (run_in b).store (entries_all (is_region_of b.image) 1 b.image.main b.from.turns b.from.store) (entries_print (is_region_of b.image) b.image.main 1 b.from.turns b.from.store)
 
-stands_first : {M : Type 0} (promise : Promise M) (es : List EntryView) (morta : M) → StandsOnly promise → promise.stands_for morta empty_log → Stands promise es morta morta empty_log
-stands_first promise es morta only stands = record {
+-- a run that stops before its first interval stops there
+pub stops_before : {M : Type 0} (b : Began M) (log : LogView) (w : Option (List ℕ)) (f : ℕ)
+    → log ≡ empty_log → StopsShort (entries_in b) (run_in b).store log.intervals (record { before = w; after = w; faults_before = f; faults = f }) NoMemory
+stops_before b log w f empty =
+    let first = first_in b in
+    subst (λ (l : LogView). StopsShort (entries_in b) (run_in b).store l.intervals (record { before = w; after = w; faults_before = f; faults = f }) NoMemory) (sym empty) (record {
+      place = first.place;
+      behind = first.behind;
+      put = nothing_put w (number_lines first.place.printed);
+      printed = first.printed;
+      cause = tt;
+    })
+
+stands_first : {M : Type 0} (promise : Promise M) (b : Began M) → StandsOnly promise → promise.stands_for b.first empty_log → Stands promise b b.first empty_log
+stands_first promise b only stands = record {
   so_far = record {
     legal = record { entries = refl; intervals = tt };
     meets = tt;
-    ticks = none_told (promise.ticks_to_come morta);
-    relation = only morta empty_log stands;
+    ticks = none_told (promise.ticks_to_come b.first);
+    relation = only b.first empty_log stands;
   };
-  keeps = keeps_same promise morta;
+  keeps = keeps_same promise b.first;
   stands = stands;
-  ticks = all_left (promise.ticks_to_come morta);
+  ticks = all_left (promise.ticks_to_come b.first);
   begun = refl;
   few = omega arith;
 }
 
 -- before the first entry
-pub between_first : {M : Type 0} (promise : Promise M) (left : Ran → Course → Type 0) (image : ImageView) (n : ℕ) (m : Memory) (morta : M) (log : LogView) (w : Option (List ℕ)) (f : ℕ)
-    → StandsOnly promise → log ≡ empty_log → promise.stands_for morta empty_log → m.printed ≡ [] → left (done m) (course_of 1 image.main n m)
-    → Between promise left image n m morta morta m log (record { before = w; after = w; faults_before = f; faults = f })
-between_first promise left image n m morta log w f only empty stands printed is_left =
-    subst (λ (l : LogView). Between promise left image n m morta morta m l (record { before = w; after = w; faults_before = f; faults = f })) (sym empty) (record {
-      stands = stands_first promise (entries_of image n m) morta only stands;
+pub between_first : {M : Type 0} (promise : Promise M) (left : Ran → Course → Type 0) (b : Began M) (log : LogView)
+    → StandsOnly promise → log ≡ empty_log → promise.stands_for b.first empty_log → b.from.store.printed ≡ []
+    → left (done b.from.store) (course_of (is_region_of b.image) 1 b.image.main b.from.turns b.from.store)
+    → Between promise left b b.first b.from.store log
+between_first promise left b log only empty stands printed is_left =
+    let first = first_in b in
+    subst (λ (l : LogView). Between promise left b b.first b.from.store l) (sym empty) (record {
+      stands = stands_first promise b only stands;
       closed = tt;
-      rest = course_of 1 image.main n m;
+      rest = course_of (is_region_of b.image) 1 b.image.main b.from.turns b.from.store;
       left_is = is_left;
       ran = refl;
-      to_come = refl;
-      are_regions = entries_of_regions image.main n m;
-      has_put = record {
-        put = subst (λ numbers. Appends w w (number_lines numbers)) (sym printed) (Appends-nil w);
-        kept = refl;
-      };
-      few = omega arith;
-      stops = stops_before image n m empty_log w f refl;
+      comes = refl;
+      are_regions = entries_of_regions (is_region_of b.image) b.image.main b.from.turns b.from.store;
+      place = first.place;
+      behind = first.behind;
+      from_here = (first.place.printed, ap (λ (xs : List ℤ). xs ++ first.place.printed) (sym printed));
+      printed = first.printed;
     })
+
+-- nothing was put of what is printed before the first entry
+pub put_first : (m : Memory) (w : Option (List ℕ)) (f : ℕ) → m.printed ≡ [] → HasPut (record { before = w; after = w; faults_before = f; faults = f }) m.printed
+put_first m w f printed = record {
+  put = subst (λ numbers. Appends w w (number_lines numbers)) (sym printed) (Appends-nil w);
+  kept = refl;
+}

@@ -1,5 +1,5 @@
 -- Where a run stops short.
-use Rattle.std.proofs.Common.{◌≡◌, ℕ, ◌-◌, ◌≤◌, ℤ, List, [], length, refl, sym, ◌∙◌, ap, subst, arith, inl, inr, None, Some, Ok, Err, slice_get}
+use Rattle.std.proofs.Common.{◌≡◌, ℕ, ◌-◌, ◌<◌, ◌≤◌, ℤ, List, [], length, refl, sym, ◌∙◌, ap, subst, arith, inl, inr, None, Some, Ok, Err, slice_get}
 use Rattle.std.specs.Prelude.{IfErr, IsErrAnd}
 use Rattle.std.specs.declared.option.Option.{Option}
 use Rattle.std.specs.declared.result.Result.{Result}
@@ -10,23 +10,24 @@ use Rattle.fate_io.specs.Sending.{Sent, BreaksOff}
 use Rattle.fate_io.specs.declared.sending.SendFault.{SendFault}
 use Rattle.fate_io.specs.declared.sending.SendFault.TheVariants as sending
 use Rattle.nona_tree.specs.Memory.{Memory, Extends}
-use Rattle.nona_tree.specs.Run.{Ran, run_all}
+use Rattle.nona_tree.specs.Run.{Ran}
 use Rattle.nona_tree.proofs.Keeps.{printed_kept}
 use Rattle.morta_task.specs.declared.intervals.Interval.{Interval}
 use Rattle.morta_task.specs.declared.intervals.Handoff.{Handoff}
-use Rattle.morta_task.specs.ImageView.{ImageView}
-use Rattle.morta_task.specs.Entries.{EntryView, entries_of, before, state_after}
+use Rattle.morta_task.specs.Entries.{EntryView, before, state_after}
 use Rattle.morta_task.specs.LogView.{LogView}
 use Rattle.morta_task.specs.Promise.{Promise}
 use Rattle.morta_task.specs.Legal.{begun, entry_number, last_in, ComesNext}
 use Rattle.morta_task.specs.Running.{IsHandoff}
 use Rattle.morta_exec.specs.declared.fault.DriveFault.{DriveFault}
 use Rattle.morta_exec.specs.declared.fault.DriveFault.TheVariants.{LogFull, NoMemory}
-use Rattle.morta_exec.specs.Lines.{number_lines}
-use Rattle.morta_exec.specs.Course.{most, ClosedBy, IsBehind, StartsNext, after_interval, before_entry}
+use Rattle.morta_text.specs.Texts.{number_lines}
+use Rattle.morta_exec.specs.Began.{Began, entries_in, run_in}
+use Rattle.morta_exec.specs.Places.{most, ClosedBy, ComesBehind, IsBehind, StartsNext, after_interval, before_entry}
 use Rattle.morta_exec.specs.Drive.{StopsShort, HasCauseOf}
 use Rattle.morta_exec.specs.Faults.{fault_of}
 use Rattle.morta_exec.specs.Puts.{HasPut}
+use Rattle.morta_exec.specs.declared.start.Pending.{Pending}
 use Rattle.morta_exec.specs.Standing.{StandsAt}
 use Rattle.morta_exec.specs.EntryRun.{whole_loop, Stopped, IsOn}
 use Rattle.morta_exec.proofs.Loops.{before_low, loop_prints}
@@ -42,70 +43,74 @@ whole_front a b text h = (text, [], sym (append-nil text), h)
 
 -- The place where an interval comes next lies behind those before it.
 behind_by : (es : List EntryView) (end : Memory) (is : List Interval) (last : Option Interval) (e : EntryView) (from : ℤ)
-    → last_in is ≡ last → ComesNext es last e from → slice_get es (e.number - 1) ≡ Some e → IsBehind es end is (state_after e (before e from)).store
+    → last_in is ≡ last → ComesNext es last e from → slice_get es (e.number - 1) ≡ Some e → ComesBehind es end is (state_after e (before e from)).store
 behind_by es end is None e from is_last next named =
     let first : e.number - 1 ≡ begun is = omega (arith, next.0, ap entry_number is_last) in
     let low : before e from ≡ 0 = ap (before e) next.1 ∙ before_low e in
-    subst (λ (m : Memory). IsBehind es end is m) (ap (λ k. (state_after e k).store) (sym low))
+    subst (λ (m : Memory). ComesBehind es end is m) (ap (λ k. (state_after e k).store) (sym low))
     (before_entry e (subst (ClosedBy es) (sym is_last) tt) (ap (slice_get es) (sym first) ∙ named))
 behind_by es end is (Some i) e from is_last (inl next) named =
-    subst (λ (m : Memory). IsBehind es end is m) (ap (λ z. (state_after e (before e z)).store) (sym next.joins))
+    subst (λ (m : Memory). ComesBehind es end is m) (ap (λ z. (state_after e (before e z)).store) (sym next.joins))
     (after_interval i e is_last (ap (λ n. slice_get es (n - 1)) next.same ∙ named))
 behind_by es end is (Some i) e from is_last (inr next) named =
     let later : e.number - 1 ≡ begun is = omega (arith, next.next, ap entry_number is_last) in
     let low : before e from ≡ 0 = ap (before e) next.low ∙ before_low e in
-    subst (λ (m : Memory). IsBehind es end is m) (ap (λ k. (state_after e k).store) (sym low))
+    subst (λ (m : Memory). ComesBehind es end is m) (ap (λ k. (state_after e k).store) (sym low))
     (before_entry e (subst (ClosedBy es) (sym is_last) next.closed) (ap (slice_get es) (sym later) ∙ named))
 
 -- what is printed at the place of a handoff is printed in the end
-handoff_prints : (image : ImageView) (n : ℕ) (m : Memory) (e : EntryView) (h : Handoff) → IsOn image n m e → IsHandoff e h → Extends h.store.printed (run_all image.main n m).store.printed
-handoff_prints image n m e h on state =
-    printed_kept.order.chain h.store (whole_loop e).store (run_all image.main n m).store
+handoff_prints : {M : Type 0} (b : Began M) (e : EntryView) (h : Handoff) → IsOn b e → IsHandoff e h → Extends h.store.printed (run_in b).store.printed
+handoff_prints b e h on state =
+    printed_kept.order.chain h.store (whole_loop e).store (run_in b).store
     (subst (λ (r : Ran). Extends r.store.printed (whole_loop e).store.printed) state.state (loop_prints e (before e h.next) on.of_run.entered state.within.1))
     on.leads
 
 -- a run stops where an interval would come next, of which all before was put
-stops_at : {M : Type 0} (promise : Promise M) (image : ImageView) (n : ℕ) (m : Memory) (first now : M) (e : EntryView) (kept : Option EntryView) (log : LogView) (h : Handoff) (sent : Sent) (fault : DriveFault)
-    → IsOn image n m e → StandsAt promise (entries_of image n m) first now e kept log h → HasPut sent h.store.printed
-    → HasCauseOf fault (entries_of image n m) log.intervals h.store sent
-    → StopsShort (entries_of image n m) (run_all image.main n m).store log.intervals sent fault
-stops_at promise image n m first now e kept log h sent fault on s put cause = record {
-  place = h.store;
-  behind = subst (λ (r : Ran). IsBehind (entries_of image n m) (run_all image.main n m).store log.intervals r.store) s.state.state
-      (behind_by (entries_of image n m) (run_all image.main n m).store log.intervals (last_in log.intervals) e h.next refl s.next on.of_run.named);
-  put = whole_front sent.before sent.after (number_lines h.store.printed) put.put;
-  printed = handoff_prints image n m e h on s.state;
-  cause = cause;
-}
+stops_at : {M : Type 0} (promise : Promise M) (b : Began M) (now : M) (e : EntryView) (log : LogView) (p : Pending) (sent : Sent) (fault : DriveFault)
+    → IsOn b e → StandsAt promise b now e log p → HasPut sent p.handoff.store.printed → length log.intervals ≤ most
+    → HasCauseOf fault (entries_in b) log.intervals p.handoff.store sent
+    → StopsShort (entries_in b) (run_in b).store log.intervals sent fault
+stops_at promise b now e log p sent fault on s put few cause =
+    let es = entries_in b in
+    let end = (run_in b).store in
+    record {
+      place = p.handoff.store;
+      behind = record {
+        few = few;
+        comes = subst (λ (r : Ran). ComesBehind es end log.intervals r.store) s.state.state
+            (behind_by es end log.intervals (last_in log.intervals) e p.handoff.next refl s.next on.of_run.named);
+      };
+      put = whole_front sent.before sent.after (number_lines p.handoff.store.printed) put.put;
+      printed = handoff_prints b e p.handoff on s.state;
+      cause = cause;
+    }
 
 -- for want of memory
-pub stopped_memory : {M : Type 0} (promise : Promise M) (image : ImageView) (n : ℕ) (m : Memory) (first now : M) (e : EntryView) (kept : Option EntryView) (log : LogView) (h : Handoff) (sent : Sent)
-    → IsOn image n m e → StandsAt promise (entries_of image n m) first now e kept log h → HasPut sent h.store.printed → length log.intervals ≤ most
-    → Stopped promise image n m first log sent NoMemory
-stopped_memory promise image n m first now e kept log h sent on s put few = record {
+pub stopped_memory : {M : Type 0} (promise : Promise M) (b : Began M) (now : M) (e : EntryView) (log : LogView) (p : Pending) (sent : Sent)
+    → IsOn b e → StandsAt promise b now e log p → HasPut sent p.handoff.store.printed → length log.intervals < most
+    → Stopped promise b log sent NoMemory
+stopped_memory promise b now e log p sent on s put room = record {
   log_stands = s.stands.so_far;
-  few = few;
   later = omega (arith, put.kept);
-  stops = stops_at promise image n m first now e kept log h sent NoMemory on s put tt;
+  stops = stops_at promise b now e log p sent NoMemory on s put (omega (arith, room)) tt;
 }
 
 -- as the log is full
-pub stopped_full : {M : Type 0} (promise : Promise M) (image : ImageView) (n : ℕ) (m : Memory) (first now : M) (e : EntryView) (kept : Option EntryView) (log : LogView) (h : Handoff) (sent : Sent)
-    → IsOn image n m e → StandsAt promise (entries_of image n m) first now e kept log h → HasPut sent h.store.printed → length log.intervals ≡ most
-    → Stopped promise image n m first log sent LogFull
-stopped_full promise image n m first now e kept log h sent on s put full =
-    let next : StartsNext (entries_of image n m) log.intervals h.store = record {
+pub stopped_full : {M : Type 0} (promise : Promise M) (b : Began M) (now : M) (e : EntryView) (log : LogView) (p : Pending) (sent : Sent)
+    → IsOn b e → StandsAt promise b now e log p → HasPut sent p.handoff.store.printed → length log.intervals ≡ most
+    → Stopped promise b log sent LogFull
+stopped_full promise b now e log p sent on s put full =
+    let next : StartsNext (entries_in b) log.intervals p.handoff.store = record {
       entry = e;
       named = on.of_run.named;
-      from = h.next;
+      from = p.handoff.next;
       next = s.next;
       store = sym (ap (λ (r : Ran). r.store) s.state.state);
     } in
     record {
       log_stands = s.stands.so_far;
-      few = subst (λ k. k ≤ most) (sym full) (omega arith);
       later = omega (arith, put.kept);
-      stops = stops_at promise image n m first now e kept log h sent LogFull on s put (full, next, put.put);
+      stops = stops_at promise b now e log p sent LogFull on s put (subst (λ k. k ≤ most) (sym full) (omega arith)) (full, next, put.put);
     }
 
 -- a place behind the log's intervals whose numbers were broken off by a fault of the sink

@@ -6,11 +6,14 @@ use Rattle.fate_io.specs.Causes.{Rose}
 use Rattle.fate_io.specs.Putting.{AppendsFront}
 use Rattle.fate_io.specs.Sending.{Sent}
 use Rattle.morta_task.specs.declared.intervals.Interval.{Interval}
+use Rattle.morta_task.specs.ImageView.{ImageView}
 use Rattle.morta_task.specs.Entries.{EntryView}
 use Rattle.morta_exec.specs.declared.fault.DriveFault.{DriveFault}
 use Rattle.morta_exec.specs.declared.fault.DriveFault.TheVariants.{WriteFailed, LogFull, NoMemory}
-use Rattle.morta_exec.specs.Lines.{number_lines}
-use Rattle.morta_exec.specs.Course.{most, IsBehind, StartsNext}
+use Rattle.morta_exec.specs.declared.start.Beginning.{Beginning}
+use Rattle.morta_exec.specs.Began.{entries_from, run_from}
+use Rattle.morta_text.specs.Texts.{number_lines}
+use Rattle.morta_exec.specs.Places.{most, IsBehind, StartsNext}
 
 -- The cause of a fault: the sink's count of faults rose; or the log is full, the next interval would start in this store,
 -- and exactly the numbers printed up to there were put; want of memory has none.
@@ -28,3 +31,7 @@ pub record StopsShort (es : List EntryView) (end : Memory) (is : List Interval) 
   pub put : AppendsFront sent.before sent.after (number_lines place.printed)
   pub printed : Extends place.printed end.printed
   pub cause : HasCauseOf fault es is place sent
+
+-- the run of an image from a beginning stopped short
+abbrev pub RunStops : ImageView → Beginning → List Interval → Sent → DriveFault → Type 0
+RunStops image from = StopsShort (entries_from image from) (run_from image from).store

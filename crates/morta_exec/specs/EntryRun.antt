@@ -1,22 +1,21 @@
 -- What the run of an entry does.
-use Rattle.std.specs.Prelude.{◌≡◌, ℕ, ◌<◌, ◌≤◌, List, length, None, Some}
+use Rattle.std.specs.Prelude.{◌≡◌, ◌<◌, ◌≤◌, length, None, Some}
 use Rattle.std.specs.declared.option.Option.{Option}
 use Rattle.fate_io.specs.Sending.{Sent}
 use Rattle.nona_tree.specs.declared.outcomes.Outcome.{Outcome}
 use Rattle.nona_tree.specs.declared.outcomes.Outcome.TheVariants.{Done}
 use Rattle.nona_tree.specs.declared.trees.Stmt.{For}
 use Rattle.nona_tree.specs.Memory.{Memory, Extends}
-use Rattle.nona_tree.specs.Run.{Ran, run, run_all}
-use Rattle.nona_walk.specs.Reached.{Reaches}
+use Rattle.nona_tree.specs.Run.{Ran, run, Reaches}
 use Rattle.morta_task.specs.declared.intervals.Interval.{Interval}
 use Rattle.morta_task.specs.declared.intervals.Handoff.{Handoff}
-use Rattle.morta_task.specs.ImageView.{ImageView}
-use Rattle.morta_task.specs.Entries.{EntryView, entries_of, last, before, state_after}
+use Rattle.morta_task.specs.Entries.{EntryView, last, before, state_after}
 use Rattle.morta_task.specs.LogView.{LogView}
 use Rattle.morta_task.specs.Promise.{Promise}
 use Rattle.morta_task.specs.Legal.{last_in, GoesOnBehind, IsClosed}
 use Rattle.morta_exec.specs.declared.fault.DriveFault.{DriveFault}
-use Rattle.morta_exec.specs.Course.{most, LogStands}
+use Rattle.morta_exec.specs.Began.{Began, entries_in, run_in}
+use Rattle.morta_exec.specs.Log.{LogStands}
 use Rattle.morta_exec.specs.Drive.{StopsShort}
 use Rattle.morta_exec.specs.Standing.{Stands, StandsAt, IsOfRun}
 
@@ -32,30 +31,29 @@ EndsWith e i (Some end) =
     × (GoesOnBehind i.done.cut → i.done.to ≡ last e) × (end ≡ Done → GoesOnBehind i.done.cut)
 
 -- an entry was run to the end of its loop, and the log's last interval is its last
-pub record HasEnded {M : Type 0} (promise : Promise M) (es : List EntryView) (first now : M) (e : EntryView) (log : LogView) (store : Memory) (end : Outcome) : Type 0 where
-  pub stands : Stands promise es first now log
+pub record HasEnded {M : Type 0} (promise : Promise M) (b : Began M) (now : M) (e : EntryView) (log : LogView) (store : Memory) (end : Outcome) : Type 0 where
+  pub stands : Stands promise b now log
   pub reaches : Reaches (whole_loop e) store end
   pub counted : length log.entries ≡ e.number
   pub interval : Interval
   pub is_last : last_in log.intervals ≡ Some interval
   pub number : interval.entry ≡ e.number
   pub state : store ≡ (state_after e (before e interval.done.to)).store
-  pub closed : GoesOnBehind interval.done.cut → IsClosed es interval
+  pub closed : GoesOnBehind interval.done.cut → IsClosed (entries_in b) interval
   pub goes_on : end ≡ Done → GoesOnBehind interval.done.cut
 
 -- behind an interval an entry goes on, or has ended
-abbrev pub GoesOnAt : {M : Type 0} → Promise M → List EntryView → M → M → EntryView → LogView → Handoff → Option Outcome → Type 0
-GoesOnAt promise es first now e log handoff None = StandsAt promise es first now e None log handoff
-GoesOnAt promise es first now e log handoff (Some end) = HasEnded promise es first now e log handoff.store end
+abbrev pub GoesOnAt : {M : Type 0} → Promise M → Began M → M → EntryView → LogView → Handoff → Option Outcome → Type 0
+GoesOnAt promise b now e log handoff None = StandsAt promise b now e log (record { kept = None; handoff = handoff })
+GoesOnAt promise b now e log handoff (Some end) = HasEnded promise b now e log handoff.store end
 
--- a run of this image from this store that stopped short, with its log
-pub record Stopped {M : Type 0} (promise : Promise M) (image : ImageView) (n : ℕ) (m : Memory) (first : M) (log : LogView) (sent : Sent) (fault : DriveFault) : Type 0 where
-  pub log_stands : LogStands promise (entries_of image n m) first log
-  pub few : length log.intervals ≤ most
+-- a run that stopped short, with its log
+pub record Stopped {M : Type 0} (promise : Promise M) (b : Began M) (log : LogView) (sent : Sent) (fault : DriveFault) : Type 0 where
+  pub log_stands : LogStands promise (entries_in b) b.first log
   pub later : sent.faults_before ≤ sent.faults
-  pub stops : StopsShort (entries_of image n m) (run_all image.main n m).store log.intervals sent fault
+  pub stops : StopsShort (entries_in b) (run_in b).store log.intervals sent fault
 
--- an entry of a run of this image from this store, whose loop prints no more than the whole run
-pub record IsOn (image : ImageView) (n : ℕ) (m : Memory) (e : EntryView) : Type 0 where
-  pub of_run : IsOfRun image (entries_of image n m) e
-  pub leads : Extends (whole_loop e).store.printed (run_all image.main n m).store.printed
+-- an entry of the run, whose loop prints no more than the whole run
+pub record IsOn {M : Type 0} (b : Began M) (e : EntryView) : Type 0 where
+  pub of_run : IsOfRun b e
+  pub leads : Extends (whole_loop e).store.printed (run_in b).store.printed

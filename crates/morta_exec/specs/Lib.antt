@@ -1,5 +1,6 @@
-pub mod Lines
-pub mod Course
+pub mod Began
+pub mod Log
+pub mod Places
 pub mod Drive
 pub mod Faults
 pub mod Puts

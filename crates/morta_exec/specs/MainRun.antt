@@ -1,61 +1,93 @@
 -- What a whole run does.
-use Rattle.std.specs.Prelude.{◌≡◌, ℕ, ◌+◌, ◌≤◌, ◌∷◌, ◌++◌, length, All, None, Some}
+use Rattle.std.specs.Prelude.{◌≡◌, ℕ, ◌+◌, ◌-◌, ◌≤◌, ◌∷◌, ◌++◌, List, [], length, All, None, Some, slice_get}
 use Rattle.std.specs.declared.option.Option.{Option}
-use Rattle.fate_io.specs.Sending.{Sent}
 use Rattle.nona_tree.specs.declared.outcomes.Outcome.{Outcome}
-use Rattle.nona_tree.specs.Memory.{Memory}
-use Rattle.nona_tree.specs.Run.{Ran, run_all, done}
+use Rattle.nona_tree.specs.declared.trees.Stmt.{For}
+use Rattle.nona_tree.specs.Memory.{Memory, Extends}
+use Rattle.nona_tree.specs.Run.{Ran, done, Reaches}
+use Rattle.nona_tree.specs.Numbers.{AreI64, IsI64, IsI64Stmt}
+use Rattle.nona_tree.specs.Scope.{IsSteady}
+use Rattle.nona_tree.specs.Smallness.{IsSmallLoop}
 use Rattle.nona_tree.specs.Entries.{regions_all, IsEntryOf}
 use Rattle.nona_main.specs.Course.{Course}
-use Rattle.nona_walk.specs.Reached.{Reaches}
-use Rattle.morta_task.specs.ImageView.{ImageView}
-use Rattle.morta_task.specs.Entries.{EntryView, entries_of, numbered_from}
+use Rattle.morta_task.specs.declared.opening.Opening.{Opening}
+use Rattle.morta_task.specs.declared.regions.RegionCode.{RegionCode}
+use Rattle.morta_task.specs.ImageView.{ImageView, is_region_of}
+use Rattle.morta_task.specs.Entries.{EntryView, entered, numbered_from}
 use Rattle.morta_task.specs.LogView.{LogView}
 use Rattle.morta_task.specs.Promise.{Promise}
 use Rattle.morta_task.specs.Legal.{last_in, EndsAll}
-use Rattle.morta_exec.specs.declared.fault.DriveFault.TheVariants.{NoMemory}
-use Rattle.morta_exec.specs.Course.{most, ClosedBy, LogStands}
-use Rattle.morta_exec.specs.Drive.{StopsShort}
-use Rattle.morta_exec.specs.Puts.{HasPut}
+use Rattle.morta_exec.specs.declared.start.Arrival.{Arrival}
+use Rattle.morta_exec.specs.Began.{Began, entries_in, run_in}
+use Rattle.morta_exec.specs.Log.{LogStands}
+use Rattle.morta_exec.specs.Places.{most, ClosedBy, IsBehind}
 use Rattle.morta_exec.specs.Standing.{Stands}
 use Rattle.morta_exec.specs.EntryRun.{whole_loop, IsOn}
 
--- Between two entries of a run of this image from the store that is named first: the last entry in the log is at its end,
--- what a frame has left once the loop at hand is done in this store is the rest of the run, and all numbers that were
--- printed so far were put.
-pub record Between {M : Type 0} (promise : Promise M) (left : Ran → Course → Type 0) (image : ImageView) (n : ℕ) (from : Memory) (first now : M) (m : Memory) (log : LogView) (sent : Sent) : Type 0 where
-  pub stands : Stands promise (entries_of image n from) first now log
-  pub closed : ClosedBy (entries_of image n from) (last_in log.intervals)
+-- the entries of a run from this number on, at regions that it comes to
+abbrev pub to_come : {M : Type 0} → Began M → ℕ → Course → List EntryView
+to_come b number rest = numbered_from b.image.regions b.from.turns number rest.entries
+
+-- Between two entries of a run: the last entry in the log is at its end; what a frame has left once the loop at hand is done
+-- in this store is the rest of the run; and what is printed in it is printed at a place that the run comes to next.
+pub record Between {M : Type 0} (promise : Promise M) (left : Ran → Course → Type 0) (b : Began M) (now : M) (m : Memory) (log : LogView) : Type 0 where
+  pub stands : Stands promise b now log
+  pub closed : ClosedBy (entries_in b) (last_in log.intervals)
   pub rest : Course
   pub left_is : left (done m) rest
-  pub ran : rest.ran ≡ run_all image.main n from
-  pub to_come : entries_of image n from ≡ log.entries ++ numbered_from image.regions n (length log.entries + 1) rest.entries
-  pub are_regions : All (IsEntryOf (regions_all image.main)) rest.entries
-  pub has_put : HasPut sent m.printed
-  pub few : length log.intervals ≤ most
-  pub stops : StopsShort (entries_of image n from) (run_all image.main n from).store log.intervals sent NoMemory
+  pub ran : rest.ran ≡ run_in b
+  pub comes : entries_in b ≡ log.entries ++ to_come b (length log.entries + 1) rest
+  pub are_regions : All (IsEntryOf (regions_all (is_region_of b.image) b.image.main)) rest.entries
+  pub place : Memory
+  pub behind : IsBehind (entries_in b) (run_in b).store log.intervals place
+  pub from_here : Extends m.printed place.printed
+  pub printed : Extends place.printed (run_in b).store.printed
 
--- A run of this image from the store that is named first, which has come to this entry. The entry is not in the log yet, and
--- a frame has left what comes behind the entry's loop.
-pub record AtEntry (left : Ran → Course → Type 0) (image : ImageView) (n : ℕ) (from : Memory) (log : LogView) (e : EntryView) : Type 0 where
+-- A run has come to this entry, which is not in the log yet, and a frame has left what comes behind the entry's loop.
+pub record AtEntry {M : Type 0} (promise : Promise M) (left : Ran → Course → Type 0) (b : Began M) (now : M) (log : LogView) (e : EntryView) : Type 0 where
+  pub stands : Stands promise b now log
+  pub closed : ClosedBy (entries_in b) (last_in log.intervals)
+  pub few : length log.intervals ≤ most
   pub rest : Course
   pub goes_on : left (whole_loop e) rest
-  pub ran : rest.ran ≡ run_all image.main n from
-  pub to_come : entries_of image n from ≡ log.entries ++ (e ∷ numbered_from image.regions n (length log.entries + 1 + 1) rest.entries)
-  pub are_regions : All (IsEntryOf (regions_all image.main)) rest.entries
+  pub ran : rest.ran ≡ run_in b
+  pub comes : entries_in b ≡ log.entries ++ (e ∷ to_come b (length log.entries + 1 + 1) rest)
+  pub are_regions : All (IsEntryOf (regions_all (is_region_of b.image) b.image.main)) rest.entries
   pub number : e.number ≡ length log.entries + 1
-  pub on : IsOn image n from e
+  pub on : IsOn b e
 
--- a run of this image from the store that is named first, which is at its end
-pub record HasRun {M : Type 0} (promise : Promise M) (image : ImageView) (n : ℕ) (from : Memory) (first : M) (log : LogView) (sent : Sent) (store : Memory) (end : Outcome) : Type 0 where
-  pub reaches : Reaches (run_all image.main n from) store end
-  pub log_stands : LogStands promise (entries_of image n from) first log
-  pub whole : EndsAll (entries_of image n from) (last_in log.intervals)
+-- a run is at its end
+pub record HasRun {M : Type 0} (promise : Promise M) (b : Began M) (log : LogView) (store : Memory) (end : Outcome) : Type 0 where
+  pub reaches : Reaches (run_in b) store end
+  pub log_stands : LogStands promise (entries_in b) b.first log
+  pub whole : EndsAll (entries_in b) (last_in log.intervals)
   pub few : length log.intervals ≤ most
-  pub has_put : HasPut sent store.printed
 
 -- behind an entry a run goes on to the next one, or is at its end
-abbrev pub GoesOnTo : {M : Type 0} → Promise M → (Ran → Course → Type 0) → (ℕ → ℕ → Type 0) → ImageView → ℕ → Memory → M → M → LogView → Sent → Memory → Option Outcome → Type 0
-GoesOnTo promise left ready image n from first now log sent store None =
-    Between promise left image n from first now store log sent × ready (length store.scalars) (length store.arrays)
-GoesOnTo promise left ready image n from first now log sent store (Some end) = HasRun promise image n from first log sent store end
+abbrev pub GoesOnTo : {M : Type 0} → Promise M → (Ran → Course → Type 0) → Began M → M → LogView → Memory → Option Outcome → Type 0
+GoesOnTo promise left b now log store None = Between promise left b now store log
+GoesOnTo promise left b now log store (Some end) = HasRun promise b log store end
+
+-- a frame that goes on can go on from this store
+abbrev pub IsReadyTo : (ℕ → ℕ → Type 0) → Memory → Option Outcome → Type 0
+IsReadyTo ready store None = ready (length store.scalars) (length store.arrays)
+IsReadyTo ready store (Some end) = Unit {0}
+
+-- an entry opens so, in this store: it is to the region of an image with this number
+pub record IsOpened (image : ImageView) (opening : Opening) (n : ℕ) (m : Memory) (e : EntryView) : Type 0 where
+  pub code : RegionCode
+  pub there : slice_get image.regions (opening.region - 1) ≡ Some code
+  pub looped : slice_get (regions_all (is_region_of image) image.main) (opening.region - 1) ≡ Some code.looped
+  pub steady : IsSteady (For code.looped) []
+  pub small : IsSmallLoop code.looped
+  pub numbers : IsI64Stmt (For code.looped)
+  pub store_numbers : AreI64 m
+  pub low_number : IsI64 opening.low
+  pub high_number : IsI64 opening.high
+  pub entry : e ≡ entered opening code.looped code.plan n m
+
+-- an entry is kept for the log, and its first interval begins at its low in its store
+pub record BeginsEntry (a : Arrival) : Type 0 where
+  pub kept : a.pending.kept ≡ Some a.entry
+  pub next : a.pending.handoff.next ≡ a.entry.low
+  pub store : a.pending.handoff.store ≡ a.entry.store

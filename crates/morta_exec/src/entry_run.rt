@@ -1,26 +1,27 @@
 //! One entry, interval by interval.
-ghost use Rattle.std.specs.Prelude.{◌≡◌, ◌+◌, ◌<◌, ◌≤◌, length, IfOk, IfErr, OnOk, None, Some};
+ghost use Rattle.std.specs.Prelude.{◌≡◌, ◌+◌, ◌<◌, ◌≤◌, length, IfOk, IfErr, OnOk};
 ghost use Rattle.std.specs.Int.{int_gap};
+ghost use Rattle.fate_io.specs.Sending.{sent_since};
 ghost use Rattle.nona_tree.specs.Memory.{Memory};
-ghost use Rattle.nona_tree.specs.Run.{done};
-ghost use Rattle.nona_walk.specs.Reached.{Reaches};
-ghost use Rattle.morta_task.specs.Entries.{entries_of, IsEntered, last, before, state_after};
+ghost use Rattle.nona_tree.specs.Run.{done, Reaches};
+ghost use Rattle.morta_task.specs.Entries.{IsEntered, last, before, state_after};
 ghost use Rattle.morta_task.specs.Running.{IsIn, IsDone, limit_of};
-ghost use Rattle.morta_exec.specs.Course.{most, ServesAll};
-ghost use Rattle.morta_exec.specs.Puts.{sent_since, HasPut};
+ghost use Rattle.morta_exec.specs.Began.{began};
+ghost use Rattle.morta_exec.specs.Log.{ServesAll};
+ghost use Rattle.morta_exec.specs.Places.{most};
+ghost use Rattle.morta_exec.specs.Puts.{HasPut};
 ghost use Rattle.morta_exec.specs.Standing.{StandsAt};
 ghost use Rattle.morta_exec.specs.EntryRun.{whole_loop, EndsWith, HasEnded, GoesOnAt, Stopped, IsOn};
 
 use crate::fault::DriveFault;
-use crate::lines::show;
-use crate::start::Start;
-use crate::turn::turn;
+use crate::interval_run::run_interval;
+use crate::shown::show;
+use crate::start::{Pending, Start};
 use fate_io::Sink;
 use morta_task::{Asker, Cut, Entry, Handoff, Image, Interval, Log, Runner};
 use nona_num::gap;
 use nona_store::Store;
 use nona_tree::Outcome;
-use std::alloc::Global;
 
 /// The most intervals that a log has.
 pub const MOST: usize = 1_048_576;
@@ -69,78 +70,61 @@ fn loop_end(image: &Image, entry: &Entry, interval: &Interval) -> Option<Outcome
 
 /// One interval of an entry, and then the lines of what it printed. The answer has how the entry's loop ended, where it
 /// did.
-fn turn_and_show<M: Runner + Asker, K: Sink>(
-    alloc: Global,
-    image: &Image,
-    start: &Start<M, K>,
+fn run_and_show<M: Runner + Asker, K: Sink>(
+    start: &Start<'_, M, K>,
     entry: &Entry,
-    kept: Option<Entry>,
-    handoff: Handoff,
+    pending: Pending,
     morta: &mut M,
     out: &mut K,
     log: &mut Log,
 ) -> Result<(Handoff, Option<Outcome>), DriveFault>
-    requires serves { ServesAll M.promise start.now.morta.value image.now }
-    requires entry { IsOn image.now start.now.turns start.now.store.value entry.now }
-    requires stands { StandsAt M.promise (entries_of image.now start.now.turns start.now.store.value) start.now.morta.value morta.old entry.now kept log.old handoff }
-    requires put { HasPut (sent_since K.written K.faults start.now.out.value out.old) handoff.store.printed }
+    requires serves { ServesAll M.promise start.now.morta.value start.now.image.now }
+    requires entry { IsOn (began start.now) entry.now }
+    requires stands { StandsAt M.promise (began start.now) morta.old entry.now log.old pending }
+    requires put { HasPut (sent_since K.written K.faults start.now.out.value out.old) pending.handoff.store.printed }
     requires room { length log.old.intervals < most }
-    ensures goes_on { IfOk result (λ r. GoesOnAt M.promise (entries_of image.now start.now.turns start.now.store.value) start.now.morta.value morta.new entry.now log.new r.0 r.1) }
+    ensures goes_on { IfOk result (λ r. GoesOnAt M.promise (began start.now) morta.new entry.now log.new r.0 r.1) }
     ensures put { IfOk result (λ r. HasPut (sent_since K.written K.faults start.now.out.value out.new) r.0.store.printed) }
     ensures added { OnOk result (length log.new.intervals ≡ length log.old.intervals + 1) }
-    ensures stopped { IfErr result (λ fault. Stopped M.promise image.now start.now.turns start.now.store.value start.now.morta.value log.new (sent_since K.written K.faults start.now.out.value out.new) fault) }
+    ensures stopped { IfErr result (λ fault. Stopped M.promise (began start.now) log.new (sent_since K.written K.faults start.now.out.value out.new) fault) }
 {
-    let shown = handoff.store.printed().len();
-    let (after, interval) = turn(image, start, entry, kept, handoff, morta, log)?;
-    show(alloc, start, &after.store, shown, out)?;
-    let end = loop_end(image, entry, &interval);
+    let shown = pending.handoff.store.printed().len();
+    let (after, interval) = run_interval(start, entry, pending, morta, log)?;
+    show(start, &after.store, shown, out)?;
+    let end = loop_end(start.image, entry, &interval);
     Ok((after, end))
 }
 
-/// Runs an entry to the end of its loop, interval by interval. `kept` is the same entry, for the log.
+/// Runs an entry to the end of its loop, interval by interval.
 pub fn run_entry<M: Runner + Asker, K: Sink>(
-    alloc: Global,
-    image: &Image,
-    start: &Start<M, K>,
+    start: &Start<'_, M, K>,
     entry: &Entry,
-    kept: Entry,
-    store: Store,
+    pending: Pending,
     morta: &mut M,
     out: &mut K,
     log: &mut Log,
 ) -> Result<(Store, Outcome), DriveFault>
-    requires serves { ServesAll M.promise start.now.morta.value image.now }
-    requires entry { IsOn image.now start.now.turns start.now.store.value entry.now }
-    requires stands { StandsAt M.promise (entries_of image.now start.now.turns start.now.store.value) start.now.morta.value morta.old entry.now (Some kept) log.old (record { next = entry.now.low; store = store }) }
-    requires put { HasPut (sent_since K.written K.faults start.now.out.value out.old) store.printed }
+    requires serves { ServesAll M.promise start.now.morta.value start.now.image.now }
+    requires entry { IsOn (began start.now) entry.now }
+    requires stands { StandsAt M.promise (began start.now) morta.old entry.now log.old pending }
+    requires put { HasPut (sent_since K.written K.faults start.now.out.value out.old) pending.handoff.store.printed }
     requires few { length log.old.intervals ≤ most }
-    ensures ended { IfOk result (λ r. HasEnded M.promise (entries_of image.now start.now.turns start.now.store.value) start.now.morta.value morta.new entry.now log.new r.0 r.1) }
+    ensures ended { IfOk result (λ r. HasEnded M.promise (began start.now) morta.new entry.now log.new r.0 r.1) }
     ensures put { IfOk result (λ r. HasPut (sent_since K.written K.faults start.now.out.value out.new) r.0.printed) }
     ensures few { OnOk result (length log.new.intervals ≤ most) }
     ensures added { OnOk result (length log.old.intervals < length log.new.intervals) }
-    ensures stopped { IfErr result (λ fault. Stopped M.promise image.now start.now.turns start.now.store.value start.now.morta.value log.new (sent_since K.written K.faults start.now.out.value out.new) fault) }
+    ensures stopped { IfErr result (λ fault. Stopped M.promise (began start.now) log.new (sent_since K.written K.faults start.now.out.value out.new) fault) }
 {
-    let mut kept = Some(kept);
-    let mut handoff = Handoff {
-        next: entry.low(),
-        store,
-    };
-    'turns: while log.intervals().len() < MOST {
-        let (after, end) = turn_and_show(
-            alloc,
-            image,
-            start,
-            entry,
-            kept.take(),
-            handoff,
-            morta,
-            out,
-            log,
-        )?;
+    let mut pending = pending;
+    while log.intervals().len() < MOST {
+        let (after, end) = run_and_show(start, entry, pending, morta, out, log)?;
         if let Some(end) = end {
             return Ok((after.store, end));
         }
-        handoff = after;
+        pending = Pending {
+            kept: None,
+            handoff: after,
+        };
     }
     Err(DriveFault::LogFull)
 }

@@ -4,14 +4,12 @@
 mod driving;
 mod entry_run;
 mod fault;
-mod lines;
+mod interval_run;
 mod main_run;
+mod shown;
 mod start;
-mod turn;
 
-pub use driving::{Ended, drive};
+pub use driving::drive;
+pub use entry_run::MOST;
 pub use fault::DriveFault;
-pub use lines::put_numbers;
-
-#[cfg(test)]
-mod tests;
+pub use start::Beginning;

@@ -1,108 +1,99 @@
 //! The main statements, from one entry to the next.
 ghost use Rattle.std.specs.Prelude.{◌≡◌, ◌+◌, ◌-◌, ◌<◌, ◌≤◌, ◌^◌, [], length, IfOk, IfErr, OnOk, None, Some, slice_get};
+ghost use Rattle.fate_io.specs.Sending.{sent_since};
 ghost use Rattle.nona_tree.specs.declared.trees.Stmt.{For};
 ghost use Rattle.nona_tree.specs.Entries.{regions_all, count_all};
+ghost use Rattle.nona_tree.specs.Numbers.{IsI64Stmt};
 ghost use Rattle.nona_tree.specs.Scope.{IsSteady};
 ghost use Rattle.nona_tree.specs.Smallness.{IsSmallLoop};
-ghost use Rattle.morta_task.specs.Entries.{entries_of, entered};
-ghost use Rattle.morta_task.specs.Legal.{last_in};
-ghost use Rattle.morta_exec.specs.Course.{most, ServesAll, ClosedBy};
-ghost use Rattle.morta_exec.specs.Puts.{sent_since, HasPut};
-ghost use Rattle.morta_exec.specs.Standing.{Stands};
-ghost use Rattle.morta_exec.specs.EntryRun.{HasEnded, Stopped, IsOn};
-ghost use Rattle.morta_exec.specs.MainRun.{Between, AtEntry, HasRun, GoesOnTo};
+ghost use Rattle.morta_task.specs.ImageView.{is_region_of};
+ghost use Rattle.morta_exec.specs.Began.{began};
+ghost use Rattle.morta_exec.specs.Log.{ServesAll};
+ghost use Rattle.morta_exec.specs.Places.{most};
+ghost use Rattle.morta_exec.specs.Puts.{HasPut};
+ghost use Rattle.morta_exec.specs.EntryRun.{Stopped};
+ghost use Rattle.morta_exec.specs.MainRun.{Between, AtEntry, HasRun, GoesOnTo, IsReadyTo, IsOpened, BeginsEntry};
 
-use crate::driving::Ended;
 use crate::entry_run::run_entry;
 use crate::fault::DriveFault;
-use crate::lines::show;
-use crate::start::Start;
+use crate::shown::show;
+use crate::start::{Arrival, Pending, Start};
 use fate_io::Sink;
-use morta_task::{Asker, Entry, Image, Log, RegionCode, Runner};
+use morta_task::{Asker, Entry, Handoff, Image, Log, Opening, RegionCode, Runner};
 use nona_main::{MainFrame, Stop};
-use nona_store::Store;
+use nona_store::{Ended, Store};
 use nona_tree::Outcome;
-use std::alloc::Global;
 
 /// The code of a region by its number, counted from 1, and what an image says of it.
 fn code_of(image: &Image, number: u32) -> &RegionCode
     requires first { 1 ≤ number }
-    requires there { number ≤ count_all image.now.main }
+    requires there { number ≤ count_all (is_region_of image.now) image.now.main }
     ensures code { slice_get image.now.regions (number - 1) ≡ Some result.now }
-    ensures looped { slice_get (regions_all image.now.main) (number - 1) ≡ Some result.now.looped }
+    ensures looped { slice_get (regions_all (is_region_of image.now) image.now.main) (number - 1) ≡ Some result.now.looped }
     ensures steady { IsSteady (For result.now.looped) [] }
     ensures small { IsSmallLoop result.now.looped }
+    ensures numbers { IsI64Stmt (For result.now.looped) }
 {
     let regions = image.regions();
     &regions[number as usize - 1]
 }
 
-/// Runs the next entry, which is to the region with this number and code, to the end of its loop.
-fn enter<M: Runner + Asker, K: Sink>(
-    alloc: Global,
-    image: &Image,
-    start: &Start<M, K>,
-    region: u32,
-    code: &RegionCode,
-    low: i64,
-    high: i64,
-    store: Store,
-    morta: &mut M,
-    out: &mut K,
-    log: &mut Log,
-) -> Result<(Store, Outcome), DriveFault>
+/// The number of the entry that comes behind those of a log.
+fn next_number(log: &Log) -> u32
+    requires { length log.now.entries ≤ most }
+    ensures { result ≡ length log.now.entries + 1 }
+{
+    log.entries().len() as u32 + 1
+}
+
+/// The entry that opens so, and what its first interval begins with.
+fn arrive<M, K>(start: &Start<'_, M, K>, opening: Opening, store: Store) -> Arrival
     requires some_turns { 1 ≤ start.now.turns }
     requires few_turns { start.now.turns ≤ 10 ^ 12 }
-    requires serves { ServesAll M.promise start.now.morta.value image.now }
-    requires entry { IsOn image.now start.now.turns start.now.store.value (entered (length log.old.entries + 1) region code.now low high start.now.turns store) }
-    requires stands { Stands M.promise (entries_of image.now start.now.turns start.now.store.value) start.now.morta.value morta.old log.old }
-    requires closed { ClosedBy (entries_of image.now start.now.turns start.now.store.value) (last_in log.old.intervals) }
-    requires put { HasPut (sent_since K.written K.faults start.now.out.value out.old) store.printed }
-    requires few { length log.old.intervals ≤ most }
-    ensures ended { IfOk result (λ r. HasEnded M.promise (entries_of image.now start.now.turns start.now.store.value) start.now.morta.value morta.new (entered (length log.old.entries + 1) region code.now low high start.now.turns store) log.new r.0 r.1) }
-    ensures put { IfOk result (λ r. HasPut (sent_since K.written K.faults start.now.out.value out.new) r.0.printed) }
-    ensures few { OnOk result (length log.new.intervals ≤ most) }
-    ensures added { OnOk result (length log.old.intervals < length log.new.intervals) }
-    ensures stopped { IfErr result (λ fault. Stopped M.promise image.now start.now.turns start.now.store.value start.now.morta.value log.new (sent_since K.written K.faults start.now.out.value out.new) fault) }
+    requires first { 1 ≤ opening.region }
+    requires there { opening.region ≤ count_all (is_region_of start.now.image.now) start.now.image.now.main }
+    ensures opened { IsOpened start.now.image.now opening start.now.turns store result.entry }
+    ensures begins { BeginsEntry result }
 {
-    let number = log.entries().len() as u32 + 1;
-    let entry = Entry::begin(number, region, code, low, high, start.turns, &store);
-    let kept = Entry::begin(number, region, code, low, high, start.turns, &store);
-    run_entry(alloc, image, start, &entry, kept, store, morta, out, log)
+    // The store's numbers are of 64 bits.
+    store.is_kept();
+    let code = code_of(start.image, opening.region);
+    let entry = Entry::begin(opening, code, start.turns, &store);
+    let kept = Entry::begin(opening, code, start.turns, &store);
+    let handoff = Handoff {
+        next: opening.low,
+        store,
+    };
+    let pending = Pending {
+        kept: Some(kept),
+        handoff,
+    };
+    Arrival { entry, pending }
 }
 
 /// Runs the loop of the region that the main statements have come to. Where it ends otherwise than done, the blocks around
 /// it are left, and the run is at its end.
 fn run_region<F: MainFrame, M: Runner + Asker, K: Sink>(
-    alloc: Global,
-    image: &Image,
-    start: &Start<M, K>,
+    start: &Start<'_, M, K>,
     frame: &mut F,
-    region: u32,
-    code: &RegionCode,
-    low: i64,
-    high: i64,
-    store: Store,
+    arrival: Arrival,
     morta: &mut M,
     out: &mut K,
     log: &mut Log,
 ) -> Result<(Store, Option<Outcome>), DriveFault>
-    requires some_turns { 1 ≤ start.now.turns }
-    requires few_turns { start.now.turns ≤ 10 ^ 12 }
-    requires serves { ServesAll M.promise start.now.morta.value image.now }
-    requires at { AtEntry (F.left frame.old start.now.turns) image.now start.now.turns start.now.store.value log.old (entered (length log.old.entries + 1) region code.now low high start.now.turns store) }
-    requires ready { F.ready frame.old start.now.turns (length store.scalars) (length store.arrays) }
-    requires stands { Stands M.promise (entries_of image.now start.now.turns start.now.store.value) start.now.morta.value morta.old log.old }
-    requires closed { ClosedBy (entries_of image.now start.now.turns start.now.store.value) (last_in log.old.intervals) }
-    requires put { HasPut (sent_since K.written K.faults start.now.out.value out.old) store.printed }
-    requires few { length log.old.intervals ≤ most }
-    ensures goes_on { IfOk result (λ r. GoesOnTo M.promise (F.left frame.new start.now.turns) (F.ready frame.new start.now.turns) image.now start.now.turns start.now.store.value start.now.morta.value morta.new log.new (sent_since K.written K.faults start.now.out.value out.new) r.0 r.1) }
+    requires serves { ServesAll M.promise start.now.morta.value start.now.image.now }
+    requires at { AtEntry M.promise (F.left frame.old start.now.turns) (began start.now) morta.old log.old arrival.entry }
+    requires begins { BeginsEntry arrival }
+    requires ready { F.ready frame.old start.now.turns (length arrival.entry.store.scalars) (length arrival.entry.store.arrays) }
+    requires put { HasPut (sent_since K.written K.faults start.now.out.value out.old) arrival.entry.store.printed }
+    ensures goes_on { IfOk result (λ r. GoesOnTo M.promise (F.left frame.new start.now.turns) (began start.now) morta.new log.new r.0 r.1) }
+    ensures put { IfOk result (λ r. HasPut (sent_since K.written K.faults start.now.out.value out.new) r.0.printed) }
+    ensures ready { IfOk result (λ r. IsReadyTo (F.ready frame.new start.now.turns) r.0 r.1) }
     ensures added { OnOk result (length log.old.intervals < length log.new.intervals) }
-    ensures stopped { IfErr result (λ fault. Stopped M.promise image.now start.now.turns start.now.store.value start.now.morta.value log.new (sent_since K.written K.faults start.now.out.value out.new) fault) }
+    ensures stopped { IfErr result (λ fault. Stopped M.promise (began start.now) log.new (sent_since K.written K.faults start.now.out.value out.new) fault) }
 {
-    let (mut store, end) = enter(
-        alloc, image, start, region, code, low, high, store, morta, out, log,
-    )?;
+    let Arrival { entry, pending } = arrival;
+    let (mut store, end) = run_entry(start, &entry, pending, morta, out, log)?;
     match end {
         Outcome::Done => Ok((store, None)),
         end => {
@@ -115,9 +106,7 @@ fn run_region<F: MainFrame, M: Runner + Asker, K: Sink>(
 /// From one entry to the next, or to the end of the run. What the main statements print comes first, and then the loop of
 /// the region that they come to.
 fn step<F: MainFrame, M: Runner + Asker, K: Sink>(
-    alloc: Global,
-    image: &Image,
-    start: &Start<M, K>,
+    start: &Start<'_, M, K>,
     frame: &mut F,
     store: Store,
     morta: &mut M,
@@ -126,33 +115,38 @@ fn step<F: MainFrame, M: Runner + Asker, K: Sink>(
 ) -> Result<(Store, Option<Outcome>), DriveFault>
     requires some_turns { 1 ≤ start.now.turns }
     requires few_turns { start.now.turns ≤ 10 ^ 12 }
-    requires serves { ServesAll M.promise start.now.morta.value image.now }
-    requires between { Between M.promise (F.left frame.old start.now.turns) image.now start.now.turns start.now.store.value start.now.morta.value morta.old store log.old (sent_since K.written K.faults start.now.out.value out.old) }
+    requires serves { ServesAll M.promise start.now.morta.value start.now.image.now }
+    requires between { Between M.promise (F.left frame.old start.now.turns) (began start.now) morta.old store log.old }
+    requires put { HasPut (sent_since K.written K.faults start.now.out.value out.old) store.printed }
     requires ready { F.ready frame.old start.now.turns (length store.scalars) (length store.arrays) }
-    ensures goes_on { IfOk result (λ r. GoesOnTo M.promise (F.left frame.new start.now.turns) (F.ready frame.new start.now.turns) image.now start.now.turns start.now.store.value start.now.morta.value morta.new log.new (sent_since K.written K.faults start.now.out.value out.new) r.0 r.1) }
+    ensures goes_on { IfOk result (λ r. GoesOnTo M.promise (F.left frame.new start.now.turns) (began start.now) morta.new log.new r.0 r.1) }
+    ensures put { IfOk result (λ r. HasPut (sent_since K.written K.faults start.now.out.value out.new) r.0.printed) }
+    ensures ready { IfOk result (λ r. IsReadyTo (F.ready frame.new start.now.turns) r.0 r.1) }
     ensures added { IfOk result (λ r. r.1 ≡ None → length log.old.intervals < length log.new.intervals) }
-    ensures stopped { IfErr result (λ fault. Stopped M.promise image.now start.now.turns start.now.store.value start.now.morta.value log.new (sent_since K.written K.faults start.now.out.value out.new) fault) }
+    ensures stopped { IfErr result (λ fault. Stopped M.promise (began start.now) log.new (sent_since K.written K.faults start.now.out.value out.new) fault) }
 {
     let mut store = store;
     let shown = store.printed().len();
     let stop = frame.next(start.turns, &mut store)?;
-    show(alloc, start, &store, shown, out)?;
+    show(start, &store, shown, out)?;
     match stop {
         Stop::Ended(end) => Ok((store, Some(end))),
         Stop::Region { number, low, high } => {
-            let code = code_of(image, number);
-            run_region(
-                alloc, image, start, frame, number, code, low, high, store, morta, out, log,
-            )
+            let opening = Opening {
+                number: next_number(log),
+                region: number,
+                low,
+                high,
+            };
+            let arrival = arrive(start, opening, store);
+            run_region(start, frame, arrival, morta, out, log)
         }
     }
 }
 
 /// Runs an image from where a frame of its main statements stands to the end of the run.
 pub fn drive_frame<F: MainFrame, M: Runner + Asker, K: Sink>(
-    alloc: Global,
-    image: &Image,
-    start: &Start<M, K>,
+    start: &Start<'_, M, K>,
     frame: &mut F,
     store: Store,
     morta: &mut M,
@@ -161,15 +155,17 @@ pub fn drive_frame<F: MainFrame, M: Runner + Asker, K: Sink>(
 ) -> Result<Ended, DriveFault>
     requires some_turns { 1 ≤ start.now.turns }
     requires few_turns { start.now.turns ≤ 10 ^ 12 }
-    requires serves { ServesAll M.promise start.now.morta.value image.now }
-    requires between { Between M.promise (F.left frame.old start.now.turns) image.now start.now.turns start.now.store.value start.now.morta.value morta.old store log.old (sent_since K.written K.faults start.now.out.value out.old) }
+    requires serves { ServesAll M.promise start.now.morta.value start.now.image.now }
+    requires between { Between M.promise (F.left frame.old start.now.turns) (began start.now) morta.old store log.old }
+    requires put { HasPut (sent_since K.written K.faults start.now.out.value out.old) store.printed }
     requires ready { F.ready frame.old start.now.turns (length store.scalars) (length store.arrays) }
-    ensures run { IfOk result (λ ended. HasRun M.promise image.now start.now.turns start.now.store.value start.now.morta.value log.new (sent_since K.written K.faults start.now.out.value out.new) ended.store ended.outcome) }
-    ensures stopped { IfErr result (λ fault. Stopped M.promise image.now start.now.turns start.now.store.value start.now.morta.value log.new (sent_since K.written K.faults start.now.out.value out.new) fault) }
+    ensures run { IfOk result (λ ended. HasRun M.promise (began start.now) log.new ended.store ended.outcome) }
+    ensures put { IfOk result (λ ended. HasPut (sent_since K.written K.faults start.now.out.value out.new) ended.store.printed) }
+    ensures stopped { IfErr result (λ fault. Stopped M.promise (began start.now) log.new (sent_since K.written K.faults start.now.out.value out.new) fault) }
 {
     let mut store = store;
-    'entries: loop {
-        let (after, end) = step(alloc, image, start, frame, store, morta, out, log)?;
+    loop {
+        let (after, end) = step(start, frame, store, morta, out, log)?;
         store = after;
         if let Some(outcome) = end {
             return Ok(Ended { outcome, store });

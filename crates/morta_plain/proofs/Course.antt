@@ -17,12 +17,11 @@ use Rattle.nona_tree.proofs.Keeps.{SameArrays, arrays_kept, turns_kept}
 use Rattle.morta_task.specs.declared.schemes.Config.{Config}
 use Rattle.morta_task.specs.declared.schemes.Scheme.TheVariants.{Seq}
 use Rattle.morta_task.specs.declared.intervals.Cut.{Cut}
-use Rattle.morta_task.specs.declared.intervals.Cut.TheVariants.{Limit}
+use Rattle.morta_task.specs.declared.intervals.Cut.TheVariants.{Limit, Paused}
 use Rattle.morta_task.specs.declared.intervals.Ran.{Ran}
 use Rattle.morta_task.specs.declared.intervals.Handoff.{Handoff}
 use Rattle.morta_task.specs.Entries.{EntryView, IsEntered, IsWithin, last, before, loop_of, state_after}
-use Rattle.morta_task.specs.Running.{IsDone, CutSays, HandsOn}
-use Rattle.morta_plain.specs.Cuts.{cut_of}
+use Rattle.morta_task.specs.Running.{IsDone, CutSays, HandsOn, cut_of}
 
 -- how far a number lies above another one that it was made from
 above : (low z : ℤ) (k : ℕ) → z ≡ low +ℤ pos k → int_gap low z ≡ k
@@ -96,15 +95,22 @@ done_limit e c from to limit m d within is room reached here =
       ticks = omega arith;
     })
 
-cut_said : (e : EntryView) (c : Config) (a limit b : ℕ) (end : Outcome) → end ≢ outcome.Done → c.scheme ≡ Seq → a < b → (state_after e b).end ≡ end → CutSays e c a limit b (cut_of end)
-cut_said e c a limit b outcome.Done other seq more is = absurd (other refl)
-cut_said e c a limit b (outcome.Trap t) other seq more is = (seq, more, is)
-cut_said e c a limit b (outcome.OutOfTurns at) other seq more is = (seq, more, is)
+cut_said : (e : EntryView) (c : Config) (a limit b begun : ℕ) (end : Outcome) → end ≢ outcome.Done → c.scheme ≡ Seq → a < b
+    → (state_after e b).end ≡ end → CutSays e c a limit b (cut_of end begun limit)
+cut_said e c a limit b begun outcome.Done other seq more is = absurd (other refl)
+cut_said e c a limit b begun (outcome.Trap t) other seq more is = (seq, more, is)
+cut_said e c a limit b begun (outcome.OutOfTurns at) other seq more is = (seq, more, is)
+
+-- it wasn't paused
+pub not_paused : (end : Outcome) (begun limit : ℕ) (cut : Cut) → end ≢ outcome.Done → cut ≡ cut_of end begun limit → cut ≢ Paused
+not_paused outcome.Done begun limit cut other is paused = other refl
+not_paused (outcome.Trap t) begun limit cut other is paused = cc
+not_paused (outcome.OutOfTurns at) begun limit cut other is paused = cc
 
 -- an interval whose last iteration ended otherwise
 pub done_end : (e : EntryView) (c : Config) (from to : ℤ) (limit k : ℕ) (m r : Memory) (end : Outcome) (cut : Cut) (d : Ran) → c.scheme ≡ Seq → IsWithin e from
     → to ≡ from +ℤ pos (k + 1) → k < limit → limit ≤ int_gap from (last e) → end ≢ outcome.Done → state_after e (before e from + k) ≡ done m
-    → state_after e (before e from + (k + 1)) ≡ record { store = r; end = end } → cut ≡ cut_of end → d ≡ record { to = to; work = None; ticks = 1; cut = cut }
+    → state_after e (before e from + (k + 1)) ≡ record { store = r; end = end } → cut ≡ cut_of end (k + 1) limit → d ≡ record { to = to; work = None; ticks = 1; cut = cut }
     → IsDone e c from limit d
 done_end e c from to limit k m r end cut d seq within is below room other reached stopped why here =
     let there = further e from to (k + 1) within is in
@@ -113,7 +119,7 @@ done_end e c from to limit k m r end cut d seq within is below room other reache
       begins = omega (arith, there);
       ends = omega (arith, there, below);
       quiet = λ j h. done_before e (before e from + k) (j + 1) m reached (omega (arith, h, there));
-      cut = cut_said e c (before e from) limit (before e to) end other seq (omega (arith, there)) (ap (λ b. (state_after e b).end) there ∙ ap (λ q. q.end) stopped);
+      cut = cut_said e c (before e from) limit (before e to) (k + 1) end other seq (omega (arith, there)) (ap (λ b. (state_after e b).end) there ∙ ap (λ q. q.end) stopped);
       ticks = omega arith;
     })
 

@@ -7,8 +7,8 @@ use Rattle.morta_task.specs.Running.{seq_one}
 use Rattle.morta_plain.specs.declared.plain_asker.PlainAsker.{PlainAsker}
 
 -- the one request that it makes
-abbrev pub request_of : PlainAsker → Ask
-request_of m = record { config = seq_one; until = m.until }
+abbrev pub same_request : PlainAsker → Ask
+same_request m = record { config = seq_one; until = m.until }
 
 -- it makes this request for each interval, whoever runs; it runs nothing, and says nothing of a log
 abbrev pub plain_asker : Promise PlainAsker
@@ -17,7 +17,7 @@ plain_asker = record {
   ticks_to_come = λ m. None;
   meets = λ m e c from done. Unit {0};
   names = λ m s. s ≡ Seq;
-  may_ask = λ m e log ask. ask ≡ request_of m;
+  may_ask = λ m e log ask. ask ≡ same_request m;
   stands_for = λ m log. Unit {0};
   asked = λ m log e from ask. Unit {0};
   ran = λ m log e i. Unit {0};

@@ -1,7 +1,6 @@
 //! A runner and an asker as plain as they can be: one thread, and the same request each time.
 #![tactic(auto)]
 
-mod iterations;
 mod one_thread;
 mod plain_asker;
 

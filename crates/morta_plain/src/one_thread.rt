@@ -4,15 +4,16 @@ ghost use Rattle.morta_task.specs.Entries.{IsWithin, last};
 ghost use Rattle.morta_task.specs.Running.{IsIn};
 ghost use Rattle.morta_plain.specs.OneThread.{one_thread};
 
-use crate::iterations::{cut_of, iterate};
 use morta_task::{Config, Cut, Entry, Handoff, Image, Morta, Ran, Runner};
 use nona_num::offset;
 use nona_store::Store;
 use nona_tree::{Outcome, Stmt};
+use nona_walk::walk_turn;
 use std::alloc::AllocError;
 
 /// A runner that takes the iterations one after another, whatever is asked for. It runs the version `seq` alone, and an
-/// interval goes on to its limit, or to an iteration that stops by a trap or runs out of turns. It takes one tick.
+/// interval goes on to its limit, or to an iteration that stops by a trap or runs out of turns: it never pauses. It takes one
+/// tick.
 #[derive(Debug, Drop)]
 pub struct OneThread;
 
@@ -69,9 +70,12 @@ impl Runner for OneThread {
         let body = body_of(image, entry);
         let Handoff { next, mut store } = handoff;
         'iterations: for k in 0..limit {
-            match iterate(body, index_on(entry, next, k), turns, &mut store)? {
+            match walk_turn(body, index_on(entry, next, k), turns, &mut store)? {
                 Outcome::Done => {}
-                end => return Ok(ended(index_on(entry, next, k + 1), store, cut_of(end))),
+                end => {
+                    let cut = Cut::of(end, k + 1, limit);
+                    return Ok(ended(index_on(entry, next, k + 1), store, cut));
+                }
             }
         }
         Ok(ended(index_on(entry, next, limit), store, Cut::Limit))

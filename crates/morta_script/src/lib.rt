@@ -5,7 +5,4 @@
 
 mod line;
 mod reading;
-#[cfg(test)]
-mod tests;
-
 pub use reading::{ScriptFault, read_script};

@@ -1,7 +1,8 @@
--- The lines that a run writes behind its printed numbers. Each ends with LF.
+-- The lines that a run writes. Each ends with LF.
 use Rattle.std.specs.Prelude.{ℕ, zero, suc, ◌+◌, ◌-◌, ◌==◌, if◌then◌else◌, ℤ, List, [], ◌∷◌, ◌++◌, length, None, Some, slice_get, codes}
 use Rattle.std.specs.declared.option.Option.{Option}
 use Rattle.std.specs.Fmt.{decimal, signed_decimal}
+use Rattle.std.specs.List.{flat_map}
 use Rattle.nona_tree.specs.declared.outcomes.Outcome.{Outcome}
 use Rattle.nona_tree.specs.declared.outcomes.Outcome.TheVariants as outcome
 use Rattle.nona_tree.specs.declared.outcomes.TrapKind.{TrapKind}
@@ -21,6 +22,14 @@ use Rattle.morta_task.specs.declared.intervals.Interval.{Interval}
 use Rattle.morta_task.specs.Entries.{EntryView}
 use Rattle.morta_task.specs.LogView.{LogView}
 use Rattle.morta_task.specs.Legal.{entry_number}
+
+-- a printed number
+abbrev pub number_line : ℤ → List ℕ
+number_line n = signed_decimal n ++ 10 ∷ []
+
+-- the printed numbers, each on a line
+abbrev pub number_lines : List ℤ → List ℕ
+number_lines numbers = flat_map number_line numbers
 
 -- what items give one after another, each by its number from this one on
 abbrev pub texts_from : {A : Type 0} → (ℕ → A → List ℕ) → ℕ → List A → List ℕ

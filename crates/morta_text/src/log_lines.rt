@@ -1,6 +1,6 @@
 ghost use Rattle.std.specs.Prelude.{◌≡◌, ◌≤◌, ◌-◌, ◌==◌, if◌then◌else◌, [], ◌∷◌, ◌++◌, length, codes, IfOk, OnOk, slice_get, string_bytes};
 ghost use Rattle.std.specs.Fmt.{decimal};
-ghost use Rattle.fate_io.specs.Sending.{Sends};
+ghost use Rattle.fate_io.specs.Sending.{sent_since, Sends};
 ghost use Rattle.morta_text.specs.Texts.{texts_from, scheme_word, cut_word, config_text, work_text, interval_line, entry_line, entry_text, entry_before, interval_text, intervals_line, log_text};
 
 use fate_io::{SendFault, Sink, send};
@@ -98,7 +98,7 @@ fn entry_number_before(intervals: &[Interval], place: usize) -> u32
 /// Sends the line of an entry.
 fn send_entry<K: Sink>(alloc: Global, entry: &Entry, out: &mut K) -> Result<(), SendFault>
     ensures later { K.faults out.old ≤ K.faults out.new }
-    ensures sent { Sends (record { before = K.written out.old; after = K.written out.new; faults_before = K.faults out.old; faults = K.faults out.new }) (entry_line entry.now) result }
+    ensures sent { Sends (sent_since K.written K.faults out.old out.new) (entry_line entry.now) result }
     ensures kept { OnOk result (K.faults out.new ≡ K.faults out.old) }
 {
     match line_of_entry(alloc, entry) {
@@ -115,7 +115,7 @@ fn send_numbered<K: Sink>(
     out: &mut K,
 ) -> Result<(), SendFault>
     ensures later { K.faults out.old ≤ K.faults out.new }
-    ensures sent { Sends (record { before = K.written out.old; after = K.written out.new; faults_before = K.faults out.old; faults = K.faults out.new }) (entry_text (slice_get entries.now (number - 1))) result }
+    ensures sent { Sends (sent_since K.written K.faults out.old out.new) (entry_text (slice_get entries.now (number - 1))) result }
     ensures kept { OnOk result (K.faults out.new ≡ K.faults out.old) }
 {
     let at = number.saturating_sub(1) as usize;
@@ -134,7 +134,7 @@ fn send_if_new<K: Sink>(
     out: &mut K,
 ) -> Result<(), SendFault>
     ensures later { K.faults out.old ≤ K.faults out.new }
-    ensures sent { Sends (record { before = K.written out.old; after = K.written out.new; faults_before = K.faults out.old; faults = K.faults out.new }) (if entry_before log.now.intervals place == number then [] else entry_text (slice_get log.now.entries (number - 1))) result }
+    ensures sent { Sends (sent_since K.written K.faults out.old out.new) (if entry_before log.now.intervals place == number then [] else entry_text (slice_get log.now.entries (number - 1))) result }
     ensures kept { OnOk result (K.faults out.new ≡ K.faults out.old) }
 {
     if entry_number_before(log.intervals(), place) == number {
@@ -150,7 +150,7 @@ fn send_interval_line<K: Sink>(
     out: &mut K,
 ) -> Result<(), SendFault>
     ensures later { K.faults out.old ≤ K.faults out.new }
-    ensures sent { Sends (record { before = K.written out.old; after = K.written out.new; faults_before = K.faults out.old; faults = K.faults out.new }) (interval_line interval) result }
+    ensures sent { Sends (sent_since K.written K.faults out.old out.new) (interval_line interval) result }
     ensures kept { OnOk result (K.faults out.new ≡ K.faults out.old) }
 {
     match line_of_interval(alloc, interval) {
@@ -168,7 +168,7 @@ fn send_interval<K: Sink>(
     out: &mut K,
 ) -> Result<(), SendFault>
     ensures later { K.faults out.old ≤ K.faults out.new }
-    ensures sent { Sends (record { before = K.written out.old; after = K.written out.new; faults_before = K.faults out.old; faults = K.faults out.new }) (interval_text log.now place interval) result }
+    ensures sent { Sends (sent_since K.written K.faults out.old out.new) (interval_text log.now place interval) result }
     ensures kept { OnOk result (K.faults out.new ≡ K.faults out.old) }
 {
     match send_if_new(alloc, log, place, interval.entry, out) {
@@ -180,7 +180,7 @@ fn send_interval<K: Sink>(
 /// Sends each interval of a log, with the entries.
 fn send_intervals<K: Sink>(alloc: Global, log: &Log, out: &mut K) -> Result<(), SendFault>
     ensures later { K.faults out.old ≤ K.faults out.new }
-    ensures sent { Sends (record { before = K.written out.old; after = K.written out.new; faults_before = K.faults out.old; faults = K.faults out.new }) (texts_from (interval_text log.now) 0 log.now.intervals) result }
+    ensures sent { Sends (sent_since K.written K.faults out.old out.new) (texts_from (interval_text log.now) 0 log.now.intervals) result }
     ensures kept { OnOk result (K.faults out.new ≡ K.faults out.old) }
 {
     let intervals = log.intervals();
@@ -200,7 +200,7 @@ fn line_of_count(alloc: Global, count: usize) -> Result<String, AllocError>
 /// Sends the line of how many intervals there are.
 fn send_count<K: Sink>(alloc: Global, count: usize, out: &mut K) -> Result<(), SendFault>
     ensures later { K.faults out.old ≤ K.faults out.new }
-    ensures sent { Sends (record { before = K.written out.old; after = K.written out.new; faults_before = K.faults out.old; faults = K.faults out.new }) (intervals_line count) result }
+    ensures sent { Sends (sent_since K.written K.faults out.old out.new) (intervals_line count) result }
     ensures kept { OnOk result (K.faults out.new ≡ K.faults out.old) }
 {
     match line_of_count(alloc, count) {
@@ -217,7 +217,7 @@ fn send_count<K: Sink>(alloc: Global, count: usize, out: &mut K) -> Result<(), S
 /// `WriteFailed` comes where a put failed, `NoMemory` where memory for a line ran out; a front of the lines went out.
 pub fn send_log<K: Sink>(alloc: Global, log: &Log, out: &mut K) -> Result<(), SendFault>
     ensures later { K.faults out.old ≤ K.faults out.new }
-    ensures sent { Sends (record { before = K.written out.old; after = K.written out.new; faults_before = K.faults out.old; faults = K.faults out.new }) (log_text log.now) result }
+    ensures sent { Sends (sent_since K.written K.faults out.old out.new) (log_text log.now) result }
     ensures kept { OnOk result (K.faults out.new ≡ K.faults out.old) }
 {
     match send_intervals(alloc, log, out) {

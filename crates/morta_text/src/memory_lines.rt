@@ -1,5 +1,5 @@
 ghost use Rattle.std.specs.Prelude.{◌≡◌, ◌<◌, ◌≤◌, ◌+◌, ◌^◌, length, IfOk, OnOk};
-ghost use Rattle.fate_io.specs.Sending.{Sends};
+ghost use Rattle.fate_io.specs.Sending.{sent_since, Sends};
 ghost use Rattle.nona_tree.specs.Value.{is_zero};
 ghost use Rattle.morta_text.specs.Texts.{texts_from, var_line, array_line, cell_line, cell_text, array_text, var_text, declared_text, memory_text};
 
@@ -49,7 +49,7 @@ fn send_cell<K: Sink>(
     out: &mut K,
 ) -> Result<(), SendFault>
     ensures later { K.faults out.old ≤ K.faults out.new }
-    ensures sent { Sends (record { before = K.written out.old; after = K.written out.new; faults_before = K.faults out.old; faults = K.faults out.new }) (cell_text name.now place value) result }
+    ensures sent { Sends (sent_since K.written K.faults out.old out.new) (cell_text name.now place value) result }
     ensures kept { OnOk result (K.faults out.new ≡ K.faults out.old) }
 {
     if is_blank(value) {
@@ -69,7 +69,7 @@ fn send_cells<K: Sink>(
     out: &mut K,
 ) -> Result<(), SendFault>
     ensures later { K.faults out.old ≤ K.faults out.new }
-    ensures sent { Sends (record { before = K.written out.old; after = K.written out.new; faults_before = K.faults out.old; faults = K.faults out.new }) (texts_from (cell_text name.now) 0 cells.now) result }
+    ensures sent { Sends (sent_since K.written K.faults out.old out.new) (texts_from (cell_text name.now) 0 cells.now) result }
     ensures kept { OnOk result (K.faults out.new ≡ K.faults out.old) }
 {
     for (place, value) in cells.iter().enumerate() {
@@ -86,7 +86,7 @@ fn send_count<K: Sink>(
     out: &mut K,
 ) -> Result<(), SendFault>
     ensures later { K.faults out.old ≤ K.faults out.new }
-    ensures sent { Sends (record { before = K.written out.old; after = K.written out.new; faults_before = K.faults out.old; faults = K.faults out.new }) (array_line name.now count) result }
+    ensures sent { Sends (sent_since K.written K.faults out.old out.new) (array_line name.now count) result }
     ensures kept { OnOk result (K.faults out.new ≡ K.faults out.old) }
 {
     match line_of_array(alloc, name, count) {
@@ -103,7 +103,7 @@ fn send_array<K: Sink>(
     out: &mut K,
 ) -> Result<(), SendFault>
     ensures later { K.faults out.old ≤ K.faults out.new }
-    ensures sent { Sends (record { before = K.written out.old; after = K.written out.new; faults_before = K.faults out.old; faults = K.faults out.new }) (array_text name.now cells.now) result }
+    ensures sent { Sends (sent_since K.written K.faults out.old out.new) (array_text name.now cells.now) result }
     ensures kept { OnOk result (K.faults out.new ≡ K.faults out.old) }
 {
     match send_count(alloc, name, cells.len(), out) {
@@ -123,7 +123,7 @@ fn send_declared<K: Sink>(
     requires there { id < length store.now.arrays }
     requires fits { id < 2 ^ 32 }
     ensures later { K.faults out.old ≤ K.faults out.new }
-    ensures sent { Sends (record { before = K.written out.old; after = K.written out.new; faults_before = K.faults out.old; faults = K.faults out.new }) (declared_text store.now id declared.now) result }
+    ensures sent { Sends (sent_since K.written K.faults out.old out.new) (declared_text store.now id declared.now) result }
     ensures kept { OnOk result (K.faults out.new ≡ K.faults out.old) }
 {
     let name = declared.name.text.as_slice();
@@ -140,7 +140,7 @@ fn send_arrays<K: Sink>(
     requires there { length arrays.now + 1 ≤ length store.now.arrays }
     requires few { length arrays.now + 1 < 2 ^ 32 }
     ensures later { K.faults out.old ≤ K.faults out.new }
-    ensures sent { Sends (record { before = K.written out.old; after = K.written out.new; faults_before = K.faults out.old; faults = K.faults out.new }) (texts_from (declared_text store.now) 1 arrays.now) result }
+    ensures sent { Sends (sent_since K.written K.faults out.old out.new) (texts_from (declared_text store.now) 1 arrays.now) result }
     ensures kept { OnOk result (K.faults out.new ≡ K.faults out.old) }
 {
     for (number, declared) in arrays.iter().enumerate() {
@@ -160,7 +160,7 @@ fn send_var<K: Sink>(
     requires there { number < length store.now.scalars }
     requires fits { number < 2 ^ 32 }
     ensures later { K.faults out.old ≤ K.faults out.new }
-    ensures sent { Sends (record { before = K.written out.old; after = K.written out.new; faults_before = K.faults out.old; faults = K.faults out.new }) (var_text store.now number declared.now) result }
+    ensures sent { Sends (sent_since K.written K.faults out.old out.new) (var_text store.now number declared.now) result }
     ensures kept { OnOk result (K.faults out.new ≡ K.faults out.old) }
 {
     let value = store.scalar(number as u32);
@@ -180,7 +180,7 @@ fn send_vars<K: Sink>(
     requires there { length vars.now ≤ length store.now.scalars }
     requires few { length vars.now < 2 ^ 32 }
     ensures later { K.faults out.old ≤ K.faults out.new }
-    ensures sent { Sends (record { before = K.written out.old; after = K.written out.new; faults_before = K.faults out.old; faults = K.faults out.new }) (texts_from (var_text store.now) 0 vars.now) result }
+    ensures sent { Sends (sent_since K.written K.faults out.old out.new) (texts_from (var_text store.now) 0 vars.now) result }
     ensures kept { OnOk result (K.faults out.new ≡ K.faults out.old) }
 {
     for (number, declared) in vars.iter().enumerate() {
@@ -204,7 +204,7 @@ pub fn send_memory<K: Sink>(
     requires arrays { length program.now.arrays + 1 ≤ length store.now.arrays }
     requires few { length program.now.vars + length program.now.arrays + 1 < 2 ^ 32 }
     ensures later { K.faults out.old ≤ K.faults out.new }
-    ensures sent { Sends (record { before = K.written out.old; after = K.written out.new; faults_before = K.faults out.old; faults = K.faults out.new }) (memory_text program.now store.now) result }
+    ensures sent { Sends (sent_since K.written K.faults out.old out.new) (memory_text program.now store.now) result }
     ensures kept { OnOk result (K.faults out.new ≡ K.faults out.old) }
 {
     match send_vars(alloc, store, program.vars.as_slice(), out) {

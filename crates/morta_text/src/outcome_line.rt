@@ -1,5 +1,5 @@
 ghost use Rattle.std.specs.Prelude.{◌≡◌, ◌≤◌, IfOk, OnOk, string_bytes};
-ghost use Rattle.fate_io.specs.Sending.{Sends};
+ghost use Rattle.fate_io.specs.Sending.{sent_since, Sends};
 ghost use Rattle.morta_text.specs.Texts.{kind_word, outcome_text};
 
 use fate_io::{SendFault, Sink, send};
@@ -38,7 +38,7 @@ fn line(alloc: Global, outcome: Outcome) -> Result<String, AllocError>
 /// `WriteFailed` comes where the put failed, `NoMemory` where memory for the line ran out; a front of the line went out.
 pub fn send_outcome<K: Sink>(alloc: Global, outcome: Outcome, out: &mut K) -> Result<(), SendFault>
     ensures later { K.faults out.old ≤ K.faults out.new }
-    ensures sent { Sends (record { before = K.written out.old; after = K.written out.new; faults_before = K.faults out.old; faults = K.faults out.new }) (outcome_text outcome) result }
+    ensures sent { Sends (sent_since K.written K.faults out.old out.new) (outcome_text outcome) result }
     ensures kept { OnOk result (K.faults out.new ≡ K.faults out.old) }
 {
     match line(alloc, outcome) {

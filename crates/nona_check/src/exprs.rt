@@ -7,7 +7,7 @@ ghost use Rattle.nona_check.specs.First.{first_from};
 
 use crate::fault::{note, note_where};
 use crate::scope::{Scope, is_input};
-use nona_tree::{Access, Expr, Op, ProgramFault, Use};
+use nona_tree::{Access, Expr, ProgramFault, Use};
 use sqlite_items::Boxed;
 use std::alloc::{AllocError, Global};
 
@@ -78,14 +78,6 @@ pub fn resolve_new(name: &Use, scope: &Scope, first: &mut Option<ProgramFault>) 
     name.with_id(scope.count())
 }
 
-/// A number, in a box.
-#[inline(never)]
-fn boxed_number(alloc: Global, value: i64) -> Result<Boxed<Expr>, AllocError>
-    ensures { IfOk result (λ e. e ≡ Expr.Number value) }
-{
-    Boxed::new(alloc, Expr::Number(value))
-}
-
 /// A scalar with its id, in a box.
 #[inline(never)]
 fn boxed_scalar(
@@ -114,45 +106,8 @@ fn boxed_length(
     Boxed::new(alloc, Expr::Len(resolve_array(array, scope, first)))
 }
 
-/// `-value`, in a box.
-#[inline(never)]
-fn boxed_neg(alloc: Global, value: Boxed<Expr>) -> Result<Boxed<Expr>, AllocError>
-    ensures { IfOk result (λ e. e ≡ Expr.Neg value) }
-{
-    Boxed::new(alloc, Expr::Neg(value))
-}
-
-/// `!value`, in a box.
-#[inline(never)]
-fn boxed_not(alloc: Global, value: Boxed<Expr>) -> Result<Boxed<Expr>, AllocError>
-    ensures { IfOk result (λ e. e ≡ Expr.Not value) }
-{
-    Boxed::new(alloc, Expr::Not(value))
-}
-
-/// `left op right`, in a box.
-#[inline(never)]
-fn boxed_binary(
-    alloc: Global,
-    op: Op,
-    at: u32,
-    left: Boxed<Expr>,
-    right: Boxed<Expr>,
-) -> Result<Boxed<Expr>, AllocError>
-    ensures { IfOk result (λ e. e ≡ Expr.Binary op at left right) }
-{
-    let both = Expr::Binary {
-        op,
-        at,
-        left,
-        right,
-    };
-    Boxed::new(alloc, both)
-}
-
-/// An expression with its ids, in a box. An expression of 64 brackets with 64 operators in each is some 4,096 levels
-/// deep, so a level takes little of the stack here: what it makes is on the heap, and what is large is in a function of
-/// its own.
+/// An expression with its ids, in a box. An expression may be some 4,096 levels deep: 64 brackets with 64 operators in
+/// each. So a level takes little of the stack here: what is large is in a function of its own.
 #[cycle(expr)]
 #[tactic(auto, using(crate::proofs::Steps::expr_steps))]
 fn resolve_boxed(
@@ -165,17 +120,17 @@ fn resolve_boxed(
     ensures faults { OnOk result (first.new ≡ first_from first.old (expr_faults expr.now scope.now)) }
 {
     match expr {
-        Expr::Number(value) => boxed_number(alloc, *value),
+        Expr::Number(value) => Expr::boxed_number(alloc, *value),
         Expr::Scalar(name) => boxed_scalar(alloc, name, scope, first),
         Expr::Cell(place) => boxed_cell(alloc, place.get(), scope, first),
         Expr::Len(array) => boxed_length(alloc, array, scope, first),
         Expr::Neg(value) => {
             let value = resolve_boxed(alloc, value.get(), scope, first)?;
-            boxed_neg(alloc, value)
+            Expr::boxed_neg(alloc, value)
         }
         Expr::Not(value) => {
             let value = resolve_boxed(alloc, value.get(), scope, first)?;
-            boxed_not(alloc, value)
+            Expr::boxed_not(alloc, value)
         }
         Expr::Binary {
             op,
@@ -185,7 +140,7 @@ fn resolve_boxed(
         } => {
             let left = resolve_boxed(alloc, left.get(), scope, first)?;
             let right = resolve_boxed(alloc, right.get(), scope, first)?;
-            boxed_binary(alloc, *op, *at, left, right)
+            Expr::boxed_binary(alloc, *op, *at, left, right)
         }
     }
 }

@@ -1,5 +1,5 @@
 -- A statement in which no region stands comes to none.
-use Rattle.std.proofs.Common.{◌≡◌, ◌+◌, ℕ, zero, suc, ℤ, pos, ◌+ℤ◌, Bool, true, false, List, [], ◌∷◌, ◌++◌, length, refl, ap, subst, ◌∙◌, arith, if◌then◌else◌, length-append}
+use Rattle.std.proofs.Common.{◌≡◌, ◌+◌, ℕ, zero, suc, ℤ, pos, ◌+ℤ◌, Bool, true, false, List, [], ◌∷◌, ◌++◌, length, refl, ap, ◌∙◌, arith, if◌then◌else◌, length-append}
 use Rattle.std.specs.Int.{int_gap}
 use Rattle.std.specs.Prelude.{min, Result, Ok, Err}
 use Rattle.nona_tree.specs.declared.outcomes.Trap.{Trap}
@@ -7,12 +7,11 @@ use Rattle.nona_tree.specs.declared.outcomes.Outcome.{Outcome}
 use Rattle.nona_tree.specs.declared.outcomes.Outcome.TheVariants as outcome
 use Rattle.nona_tree.specs.declared.trees.Loop.{Loop}
 use Rattle.nona_tree.specs.declared.trees.Stmt.{Stmt, Let, Set, Fold, Put, FoldPut, If', While', For', Print, Row_of-Stmt, end_of-Stmt, more_of-Stmt, items-the_row-Stmt}
-use Rattle.nona_tree.specs.Memory.{Memory, Extends, declare}
+use Rattle.nona_tree.specs.Memory.{Memory, declare}
 use Rattle.nona_tree.specs.Value.{Answer, is_zero, value_of}
 use Rattle.nona_tree.specs.Run.{Ran, run, run_row, block, turn, first_turns}
 use Rattle.nona_tree.specs.Beside.{on_ok, on_end, while_gives, first_give}
 use Rattle.nona_tree.specs.Entries.{Opened, loop_with, regions_in, regions_row, count_in, count_row, entries, entries_row}
-use Rattle.nona_tree.proofs.Keeps.{MorePrinted, printed_kept, run_kept}
 use Rattle.nona_frame.specs.declared.steps.Task.{Task}
 use Rattle.nona_main.specs.Course.{joined}
 use Rattle.nona_frame.specs.Tasks.{course_in, course_by}
@@ -84,7 +83,3 @@ pub course_whole : (chosen : Loop → Bool) (s : Stmt) (first n : ℕ) (m : Memo
     → joined (course_in chosen first s n m) (course_by chosen ts n) ≡ course_by chosen ts n r
 course_whole chosen s first n m r ts none ran =
     ap (λ es. joined (record { ran = run s n m; entries = es }) (course_by chosen ts n)) (no_entries chosen s first n m none) ∙ ap (course_by chosen ts n) ran
-
--- a statement only adds to what is printed
-pub more_printed : (s : Stmt) (n : ℕ) (m r : Memory) (e : Outcome) → run s n m ≡ record { store = r; end = e } → Extends m.printed r.printed
-more_printed s n m r e ran = subst (λ (q : Ran). Extends m.printed q.store.printed) ran (run_kept MorePrinted printed_kept s n m)

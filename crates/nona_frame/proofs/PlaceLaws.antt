@@ -1,7 +1,7 @@
 -- Where the marks of what is come to stand.
 use Rattle.std.proofs.Common.{◌≡◌, ◌≢◌, ◌<◌, ◌≤◌, ◌+◌, ◌-◌, ◌^◌, ℕ, Bool, true, false, nat_eq, List, [], ◌∷◌, ◌++◌, length, drop, get_or, refl, sym, ap, subst, subst₂, ◌∙◌, arith, append_assoc, length-append, length-drop}
-use Rattle.std.proofs.lemmas.Bool.{eqb-false}
 use Rattle.std.proofs.lemmas.List.{get_or-drop, drop-drop, drop_at}
+use Rattle.std.proofs.lemmas.Option.{get_or_from_slice_get, slice_get_read}
 use Rattle.nona_frame.specs.declared.marks.Mark.{Mark}
 use Rattle.nona_frame.specs.declared.marks.Place.{Place}
 use Rattle.nona_tree.specs.declared.trees.Expr.{Expr}
@@ -33,6 +33,12 @@ can_pass j k inner rest table place h =
       few = subst (λ (n : ℕ). place.first + n < 2 ^ 32) (sym (ap (λ (x : Mark). x.regions) m)) (omega (arith, h.few));
       within = subst (λ (n : ℕ). place.mark + 1 + n ≤ length table) (sym (ap (λ (x : Mark). x.width) m)) (omega (arith, far, length-append inner rest));
     }
+
+-- what is read at the place is its mark
+pub read_there : (table : List Mark) (place : Place) (m : Mark) → place.mark < length table → m ≡ get_or table place.mark m → m ≡ mark_at table place.mark
+read_there table place m within is =
+    let none : Mark = record { regions = 0; width = 0 } in
+    sym (get_or_from_slice_get table place.mark m none (slice_get_read table (length table) place.mark m refl within is))
 
 -- some of them, and those behind these
 
@@ -112,14 +118,17 @@ first_block_marked chosen then_part else_part table place q h first mark =
 -- a loop in which a region stands is one itself where it has no marks inside
 
 some_marks : (chosen : Loop → Bool) (body : List Stmt) → count_all chosen body ≢ 0 → length (marks_all chosen body) ≢ 0
-some_marks chosen [] some = some
+some_marks chosen [] some none = some none
 some_marks chosen (s ∷ rest) some none = absurd (omega (arith, none, length-append (marks_inside chosen s) (marks_all chosen rest)))
+
+not_zero : (k : ℕ) → k ≢ 0 → nat_eq k 0 ≡ false
+not_zero k other = grind (arith, other)
 
 width_tells : (chosen : Loop → Bool) (l : Loop) (b : Bool) → chosen l ≡ b → count_in chosen (For l) ≢ 0 → nat_eq (length (marks_inside chosen (For l))) 0 ≡ b
 width_tells chosen l true is some = ap (λ ms. nat_eq (length ms) 0) (marks_region chosen (For l) l refl is)
 width_tells chosen l false is some =
     let more = some_marks chosen l.body (λ none. some (count_for chosen (For l) l refl is ∙ none)) in
-    ap (λ ms. nat_eq (length ms) 0) (marks_for chosen (For l) l refl is) ∙ eqb-false _ _ more
+    ap (λ ms. nat_eq (length ms) 0) (marks_for chosen (For l) l refl is) ∙ not_zero _ more
 
 pub region_by_width : (chosen : Loop → Bool) (l : Loop) (table : List Mark) (place : Place) → count_in chosen (For l) ≢ 0
     → IsMarked (count_in chosen (For l)) (marks_in chosen (For l)) place table → nat_eq (mark_at table place.mark).width 0 ≡ chosen l

@@ -1,5 +1,7 @@
 -- Where tasks are ready.
 use Rattle.std.proofs.Common.{◌≡◌, ◌≤◌, ◌+◌, ℕ, Bool, true, false, List, [], ◌∷◌, length, ℤ, sym, ap, subst₂, ◌∙◌, arith, length-append, if◌then◌else◌}
+use Rattle.std.proofs.lemmas.List.{length-map}
+use Rattle.std.specs.Prelude.{map}
 use Rattle.nona_tree.specs.declared.trees.Stmt.{Stmt}
 use Rattle.nona_tree.specs.Memory.{Memory, declare}
 use Rattle.nona_tree.specs.Scope.{is_let, AreScoped, depth_after, depth_after_all}
@@ -8,6 +10,13 @@ use Rattle.nona_frame.specs.declared.steps.Block.{Block}
 use Rattle.nona_frame.specs.declared.steps.Task.{Task}
 use Rattle.nona_frame.specs.declared.steps.Task.TheVariants as task
 use Rattle.nona_frame.specs.Tasks.{IsBlockMarked, AreReady}
+
+-- what is so of the counts behind a statement is so of those in the store that it left
+pub counted : (P : ℕ → ℕ → Type 0) (s : Stmt) (m r : Memory) → length r.scalars ≡ depth_after s (length m.scalars)
+    → map length r.arrays ≡ map length m.arrays → P (depth_after s (length m.scalars)) (length m.arrays) → P (length r.scalars) (length r.arrays)
+counted P s m r scalars arrays holds =
+    let as_many : length r.arrays ≡ length m.arrays = sym (length-map r.arrays length) ∙ ap length arrays ∙ length-map m.arrays length in
+    subst₂ (λ d a. P d a) (sym scalars) (sym as_many) holds
 
 one_or_none : (b : Bool) (depth : ℕ) → depth ≤ (if b then depth + 1 else depth)
 one_or_none true depth = omega arith

@@ -54,11 +54,12 @@ pub fn inside(place: Place) -> Place
 }
 
 /// The place behind what stands at this one.
-pub fn behind(place: Place, marks: &[Mark]) -> Place
-    requires { CanPass place marks.now }
-    ensures { (j k : ℕ) (inside rest : List Mark) → IsMarked (j + k) (headed j inside ++ rest) place marks.now → IsMarked k rest result marks.now × (result.first ≡ place.first + j) }
+pub fn behind(place: Place, marks: &Marks) -> Place
+    requires { CanPass place marks.now.marks.items }
+    ensures { (j k : ℕ) (inside rest : List Mark) → IsMarked (j + k) (headed j inside ++ rest) place marks.now.marks.items
+        → IsMarked k rest result marks.now.marks.items × (result.first ≡ place.first + j) }
 {
-    let mark = marks[place.mark];
+    let mark = marks.marks[place.mark];
     Place {
         first: place.first + mark.regions,
         mark: place.mark + 1 + mark.width,
@@ -66,12 +67,12 @@ pub fn behind(place: Place, marks: &[Mark]) -> Place
 }
 
 /// Whether the loop at this place, in which a region stands, is that region itself: then it has no marks inside it.
-pub fn is_region(place: Place, marks: &[Mark]) -> bool
-    requires { place.mark < length marks.now }
+pub fn is_region(place: Place, marks: &Marks) -> bool
+    requires { place.mark < length marks.now.marks.items }
     ensures { (chosen : Loop → Bool) (l : Loop) → count_in chosen (For l) ≢ 0
-        → IsMarked (count_in chosen (For l)) (marks_in chosen (For l)) place marks.now → result ≡ chosen l }
+        → IsMarked (count_in chosen (For l)) (marks_in chosen (For l)) place marks.now.marks.items → result ≡ chosen l }
 {
-    marks[place.mark].width == 0
+    marks.marks[place.mark].width == 0
 }
 
 /// Sets the mark at `place`: all marks behind it belong to it.
@@ -112,11 +113,7 @@ fn mark_statement(
 
 /// The same of what stands in the statement, without a mark of its own.
 #[cycle(mark)]
-fn mark_inside(
-    s: &Stmt,
-    regions: &BTreeSet<u32>,
-    marks: &mut Vec<Mark>,
-) -> Result<u32, AllocError>
+fn mark_inside(s: &Stmt, regions: &BTreeSet<u32>, marks: &mut Vec<Mark>) -> Result<u32, AllocError>
     requires { count_in (is_in regions.now) s.now < 2 ^ 32 }
     ensures marks { OnOk result (marks.new.items ≡ marks.old.items ++ marks_inside (is_in regions.now) s.now) }
     ensures count { IfOk result (λ count. count ≡ count_in (is_in regions.now) s.now) }
@@ -152,7 +149,8 @@ fn mark_block(
     marks: &mut Vec<Mark>,
 ) -> Result<u32, AllocError>
     requires { count_all (is_in regions.now) body.now < 2 ^ 32 }
-    ensures marks { OnOk result (marks.new.items ≡ marks.old.items ++ headed (count_all (is_in regions.now) body.now) (marks_all (is_in regions.now) body.now)) }
+    ensures marks { OnOk result (marks.new.items
+        ≡ marks.old.items ++ headed (count_all (is_in regions.now) body.now) (marks_all (is_in regions.now) body.now)) }
     ensures count { IfOk result (λ count. count ≡ count_all (is_in regions.now) body.now) }
 {
     let place = marks.len();

@@ -16,7 +16,7 @@ ghost use Rattle.nona_frame.specs.Costs.{cost_in, cost_all, cost_of};
 
 use crate::marks::{Marks, Place, behind, inside, is_region};
 use nona_store::Store;
-use nona_tree::{Expr, Loop, Outcome, Stmt};
+use nona_tree::{Expr, Loop, Outcome, Stmt, lengths_stay, printed_grows, scalars_stay};
 use nona_walk::{is_no, leave, value, walk};
 use std::alloc::AllocError;
 
@@ -119,7 +119,7 @@ fn split<'a>(block: Block<'a>, marks: &Marks) -> Option<(&'a Stmt, Block<'a>)>
             first,
             Block {
                 statements,
-                place: behind(block.place, marks.marks.as_slice()),
+                place: behind(block.place, marks),
             },
         )),
     }
@@ -133,6 +133,9 @@ fn run_whole(statement: &Stmt, turns: u64, store: &mut Store) -> Result<Step, Al
     ensures ready { (table : Marks) (ts : List Task) → KeepsReady table (depth_after statement.now) store.old ts result store.new ts }
     ensures prints { OnOk result (Extends store.old.printed store.new.printed) }
 {
+    scalars_stay();
+    lengths_stay();
+    printed_grows();
     match walk(statement, turns, store)? {
         Outcome::Done => Ok(Step::On),
         end => Ok(Step::Ended(end)),
@@ -263,7 +266,7 @@ fn enter_for<'a>(
         Ok(high) => high,
         Err(trap) => return Ok(Step::Ended(Outcome::Trap(trap))),
     };
-    if is_region(here, marks.marks.as_slice()) {
+    if is_region(here, marks) {
         return Ok(Step::Region {
             number: here.first,
             low,
@@ -345,7 +348,7 @@ fn enter<'a>(
                 },
                 no: Block {
                     statements: no.as_slice(),
-                    place: behind(inner, marks.marks.as_slice()),
+                    place: behind(inner, marks),
                 },
             };
             choose(choice, turns, tasks, store)

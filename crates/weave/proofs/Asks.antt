@@ -1,8 +1,6 @@
 -- What a replay asks for, and what it has then run.
 use Rattle.std.proofs.Common.{◌≡◌, ◌+◌, ℕ, ℤ, List, [], ◌∷◌, get_or, refl, sym, ap, subst, ◌∙◌, arith}
 use Rattle.std.proofs.lemmas.List.{get_or-drop}
-use Rattle.morta_task.specs.declared.schemes.Scheme.{Scheme}
-use Rattle.morta_task.specs.declared.schemes.Scheme.TheVariants.{Seq}
 use Rattle.morta_task.specs.declared.schemes.Config.{Config}
 use Rattle.morta_task.specs.declared.schemes.Ask.{Ask}
 use Rattle.morta_task.specs.declared.intervals.Ran.{Ran}
@@ -14,9 +12,9 @@ use Rattle.weave.specs.declared.script.Command.{Command}
 use Rattle.weave.specs.declared.script.Command.TheVariants.{Use, Step, Pause}
 use Rattle.weave.specs.Following.{IsCommand, AreCommands}
 use Rattle.weave.specs.Asking.{IsNoUse, IsUseAt}
-use Rattle.weave.specs.Replay.{Held, held_asked, held_at, left_by, IsReplayed, UsesScheme}
+use Rattle.weave.specs.Replay.{behind_use, commands_left, left_at, next_request, current_at, IsReplayed, UsesScheme}
 use Rattle.weave.specs.WeaveView.{WeaveView}
-use Rattle.weave.specs.WeavePromise.{held, StandsFor, HasAsked, weave_promise}
+use Rattle.weave.specs.WeavePromise.{StandsFor, HasAsked, weave_promise}
 
 use_is : (commands : List Command) (at : ℕ) (ask : Ask) (other : Command) → IsUseAt commands at ask → get_or commands at other ≡ Use ask.config ask.until
 use_is commands at ask other h =
@@ -33,34 +31,54 @@ pub use_named : (commands : List Command) (at : ℕ) (ask : Ask) → IsUseAt com
 use_named commands at ask h = (ask.config, ask.until, (at, h.0, use_is commands at ask (Use ask.config ask.until) h), refl)
 
 -- a `use` that came first is taken
-pub use_taken : (w : WeaveView) (log : LogView) (e : EntryView) (config : Config) (rest : List Command) (ask : Ask) → IsAtHand log e → StandsFor w log
+pub use_taken : (w : WeaveView) (log : LogView) (e : EntryView) (rest : List Command) (ask : Ask) → IsAtHand log e → StandsFor w log
     → w.left ≡ Use ask.config ask.until ∷ rest → HasAsked (record w { left = rest; current = ask.config }) log e
-use_taken w log e config rest ask hand (held_is, replay) is =
-    let taken : held_asked w.left w.current ≡ record { left = rest; current = ask.config } = ap (λ (cs : List Command). held_asked cs w.current) is in
-    (hand, sym taken ∙ ap (λ (h : Held). held_asked h.left h.current) held_is, replay)
+use_taken w log e rest ask hand s is =
+    let there : left_at w.capacity w.script log ≡ Use ask.config ask.until ∷ rest = sym s.left ∙ is in
+    record {
+      hand = hand;
+      left = ap behind_use (sym there);
+      current = ap (λ (cs : List Command). (next_request cs (current_at w.capacity w.script log)).config) (sym there);
+      replay = s.replay;
+    }
 
-stays : (left : List Command) (current : Config) → IsNoUse left → (record { left = left; current = current }) ≡ held_asked left current
-stays [] current none = refl
-stays (Use config until ∷ rest) current none = absurd none
-stays (Step task moves ∷ rest) current none = refl
-stays (Pause ∷ rest) current none = refl
+stays : (left : List Command) → IsNoUse left → left ≡ behind_use left
+stays [] none = refl
+stays (Use config until ∷ rest) none = absurd none
+stays (Step task moves ∷ rest) none = refl
+stays (Pause ∷ rest) none = refl
+
+same_config : (left : List Command) (current : Config) → IsNoUse left → current ≡ (next_request left current).config
+same_config [] current none = refl
+same_config (Use config until ∷ rest) current none = absurd none
+same_config (Step task moves ∷ rest) current none = refl
+same_config (Pause ∷ rest) current none = refl
 
 -- where none came first, nothing is taken
 pub none_taken : (w : WeaveView) (log : LogView) (e : EntryView) → IsAtHand log e → StandsFor w log → IsNoUse w.left → HasAsked w log e
-none_taken w log e hand (held_is, replay) none =
-    (hand, stays w.left w.current none ∙ ap (λ (h : Held). held_asked h.left h.current) held_is, replay)
+none_taken w log e hand s none = record {
+  hand = hand;
+  left = stays w.left none ∙ ap behind_use s.left;
+  current = same_config w.left w.current none ∙ (λ k. (next_request (s.left k) (s.current k)).config);
+  replay = s.replay;
+}
 
 -- an interval that ran as the replay does goes on from each log for which it was asked
-pub goes_on : (old new : WeaveView) (e : EntryView) (config : Config) (from : ℤ) (limit : ℕ) (done : Ran) → config.scheme ≡ Seq → IsReplayed Seq e from limit old.left done
-    → new ≡ record old { left = left_by Seq e from limit old.left } → GoesOn weave_promise old new e config from limit done
-goes_on old new e config from limit done seq replayed is =
+pub goes_on : (old new : WeaveView) (e : EntryView) (config : Config) (from : ℤ) (limit : ℕ) (done : Ran) → IsReplayed old.capacity config e from limit old.left done
+    → new ≡ record old { left = commands_left old.capacity config e from limit old.left } → GoesOn weave_promise old new e config from limit done
+goes_on old new e config from limit done replayed is =
     subst (λ (w : WeaveView). GoesOn weave_promise old w e config from limit done) (sym is) on where
-      on : GoesOn weave_promise old (record old { left = left_by Seq e from limit old.left }) e config from limit done
+      on : GoesOn weave_promise old (record old { left = commands_left old.capacity config e from limit old.left }) e config from limit done
       on log ask asked is_chosen limit_is =
-          let next : Held = record { left = left_by Seq e from limit old.left; current = old.current } in
-          let P : Scheme → ℕ → Held → Type 0 = λ s l h. IsReplayed s e from l h.left done × (next ≡ record { left = left_by s e from l h.left; current = h.current }) in
-          let asked_is = asked.1 in
-          let here : P Seq limit (held old) = (replayed, refl) in
-          let there : P config.scheme (limit_of e from ask.until) (held_asked (held_at old.script log).left (held_at old.script log).current) =
-          subst (P config.scheme (limit_of e from ask.until)) asked_is (subst (λ (l : ℕ). P config.scheme l (held old)) limit_is (subst (λ (s : Scheme). P s limit (held old)) (sym seq) here)) in
-          (asked.0, refl, there.0, there.1, asked.2)
+          let before = behind_use (left_at old.capacity old.script log) in
+          let there : IsReplayed old.capacity config e from (limit_of e from ask.until) before done =
+          subst (λ (l : ℕ). IsReplayed old.capacity config e from l before done) limit_is
+          (subst (λ (cs : List Command). IsReplayed old.capacity config e from limit cs done) asked.left replayed) in
+          record {
+            hand = asked.hand;
+            number = refl;
+            replayed = there;
+            left = λ k. commands_left old.capacity config e from (limit_is k) (asked.left k);
+            current = asked.current;
+            replay = asked.replay;
+          }

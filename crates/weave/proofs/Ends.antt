@@ -1,5 +1,5 @@
 -- What an interval under `seq` did whose machine has run out.
-use Rattle.std.proofs.Common.{◌≡◌, ◌≤◌, ◌+◌, ◌-◌, ◌⊎◌, ℕ, ℤ, pos, negsuc, ◌+ℤ◌, Bool, true, false, List, length, refl, sym, ap, subst, subst₂, ◌∙◌, arith, inl, inr, nat_lt, min, FitsSigned, if◌then◌else◌}
+use Rattle.std.proofs.Common.{◌≡◌, ◌≤◌, ◌+◌, ◌-◌, ◌*◌, ◌⊎◌, ℕ, suc, ℤ, pos, negsuc, ◌+ℤ◌, Bool, true, false, List, length, refl, sym, ap, subst, subst₂, ◌∙◌, arith, inl, inr, nat_lt, min, FitsSigned, if◌then◌else◌}
 use Rattle.std.proofs.lemmas.Int.{ints}
 use Rattle.std.specs.Int.{w64, int_gap}
 use Rattle.nona_tree.specs.declared.outcomes.Outcome.{Outcome}
@@ -10,13 +10,14 @@ use Rattle.morta_task.specs.declared.schemes.Scheme.TheVariants.{Seq}
 use Rattle.morta_task.specs.declared.schemes.Config.{Config}
 use Rattle.morta_task.specs.declared.intervals.Cut.TheVariants.{Limit, Paused}
 use Rattle.morta_task.specs.Entries.{EntryView, IsEntered, IsWithin, before, last, state_after}
-use Rattle.morta_task.specs.Running.{CutSays, IsDone}
+use Rattle.morta_task.specs.Running.{CutSays, IsDone, cut_of}
 use Rattle.weave.specs.declared.script.Command.{Command}
 use Rattle.weave.specs.Machines.{RunsOut}
 use Rattle.weave.specs.Following.{follow}
-use Rattle.weave.specs.SeqNet.{SeqNet, Place, Claims, Unit_of, Finished, is_finished, seq_machine, begun_net, ran_of, cut_of}
-use Rattle.weave.specs.SeqState.{StandsAt, moves_at}
+use Rattle.weave.specs.SeqNet.{SeqNet, Stand, Claims, Unit_of, Finished, is_finished, seq_machine, begun_net, ran_of}
+use Rattle.weave.specs.SeqState.{StandsAt, HasMovedAt, HasEndedAfter, StopsWithin}
 use Rattle.weave.proofs.SeqLaws.{done_before}
+use Rattle.weave.proofs.Counts.{one_more}
 use Rattle.weave.proofs.Sound.{SameInterval, sound_begun}
 use Rattle.weave.proofs.RunsOut.{Sound, sound_kept, kept_follow, kept_out}
 
@@ -74,15 +75,29 @@ cut_says (outcome.Trap t) e c a limit granted seq within is (inr some) = (seq, o
 cut_says (outcome.OutOfTurns at) e c a limit granted seq within is (inl other) = cc
 cut_says (outcome.OutOfTurns at) e c a limit granted seq within is (inr some) = (seq, omega (arith, some), is)
 
-stands_finished : (p : Place) (net : SeqNet) → is_finished p ≡ true → StandsAt p net → StandsAt Finished net
+stands_finished : (p : Stand) (net : SeqNet) → is_finished p ≡ true → StandsAt p net → StandsAt Finished net
 stands_finished Claims net over here = cc
 stands_finished (Unit_of s rest) net over here = cc
 stands_finished Finished net over here = here
 
-no_moves : (p : Place) (more units : ℕ) → is_finished p ≡ true → moves_at p more units ≡ 0
-no_moves Claims more units over = cc
-no_moves (Unit_of s rest) more units over = cc
-no_moves Finished more units over = refl
+finished_moves : (p : Stand) (end : Outcome) (moves granted units : ℕ) → is_finished p ≡ true → HasMovedAt p end moves granted units → HasEndedAfter end moves granted units
+finished_moves Claims end moves granted units over here = cc
+finished_moves (Unit_of s rest) end moves granted units over here = cc
+finished_moves Finished end moves granted units over here = here
+
+stopped_moved : (moves granted units : ℕ) → 1 ≤ granted → StopsWithin moves granted units → 1 ≤ moves
+stopped_moved moves granted units some (left, behind, is) =
+    let one : granted ≡ suc (granted - 1) = omega (arith, some) in
+    let split : granted * (units + 1) ≡ (granted - 1) * (units + 1) + (units + 1) = one_more granted units one in
+    omega (arith, behind, is, split)
+
+-- a task that has finished has moved
+has_moved : (end : Outcome) (moves granted units : ℕ) → (end ≡ outcome.Done) ⊎ (1 ≤ granted) → HasEndedAfter end moves granted units → 1 ≤ moves
+has_moved outcome.Done moves granted units some is = omega (arith, is)
+has_moved (outcome.Trap t) moves granted units (inl other) is = cc
+has_moved (outcome.Trap t) moves granted units (inr some) is = stopped_moved moves granted units some is
+has_moved (outcome.OutOfTurns at) moves granted units (inl other) is = cc
+has_moved (outcome.OutOfTurns at) moves granted units (inr some) is = stopped_moved moves granted units some is
 
 -- the machine of an interval, once it has run out
 pub sound_end : (e : EntryView) (from : ℤ) (limit : ℕ) (m : Memory) (commands : List Command) (end : SeqNet) → IsEntered e → state_after e (before e from) ≡ done m
@@ -131,7 +146,8 @@ is_done e c from limit m end seq within room over (entered, s, same) =
       ends = omega (arith, here, below);
       quiet = λ k h. done_before e (k + 1) (before e to - 1) (omega (arith, h)) quiet;
       cut = subst₂ (λ (b l : ℕ). CutSays e c a limit b (cut_of end.end end.granted l)) (sym here) (sym same.limit) cut;
-      ticks = omega (arith, s.some, no_moves end.place (end.limit - end.granted) (length end.entry.looped.body) over);
+      ticks = has_moved end.end end.moves end.granted (length end.entry.looped.body) stands.1
+          (finished_moves end.place end.end end.moves end.granted (length end.entry.looped.body) over s.counted);
     }
 
 -- and the store that it hands on

@@ -1,13 +1,13 @@
 -- The moves of an interval are few enough to be counted.
-use Rattle.std.proofs.Common.{◌≡◌, ◌<◌, ◌≤◌, ◌+◌, ◌*◌, ◌^◌, false, List, [], ◌∷◌, length, arith}
+use Rattle.std.proofs.Common.{◌≡◌, ◌<◌, ◌≤◌, ◌+◌, ◌*◌, ◌^◌, ℕ, false, List, [], ◌∷◌, length, arith}
 use Rattle.std.proofs.lemmas.Nat.{mul-le}
 use Rattle.nona_tree.specs.declared.trees.Loop.{Loop}
 use Rattle.nona_tree.specs.declared.trees.Stmt.{Stmt, Let, Set, Fold, Put, FoldPut, If', While', For', Print}
 use Rattle.nona_tree.specs.Smallness.{stmt_size, all_size, IsSmallLoop}
 use Rattle.nona_tree.proofs.CheckEquations.{size-For}
-use Rattle.weave.specs.SeqNet.{SeqNet, is_finished}
-use Rattle.weave.specs.SeqState.{IsSound}
-use Rattle.weave.proofs.SeqLaws.{falls}
+use Rattle.nona_tree.specs.declared.outcomes.Outcome.{Outcome}
+use Rattle.weave.specs.SeqNet.{SeqNet, Stand, Claims, Unit_of, Finished, is_finished}
+use Rattle.weave.specs.SeqState.{HasMovedAt, IsSound}
 
 some_size : (s : Stmt) → 1 ≤ stmt_size s
 some_size (Let x e) = omega arith
@@ -28,9 +28,16 @@ length_size (s ∷ rest) = omega (arith, some_size s, length_size rest)
 pub few_units : (l : Loop) → IsSmallLoop l → length l.body < 2 ^ 20
 few_units l small = omega (arith, small.0, size-For l, length_size l.body)
 
+few_moves : (p : Stand) (end : Outcome) (moves granted units : ℕ) → is_finished p ≡ false → HasMovedAt p end moves granted units → moves ≤ granted * (units + 1)
+few_moves Claims end moves granted units going is = omega (arith, is)
+few_moves (Unit_of s rest) end moves granted units going is = omega (arith, is.1)
+few_moves Finished end moves granted units going is = cc
+
 -- one more move fits
 pub move_fits : (net : SeqNet) → is_finished net.place ≡ false → IsSound net → net.limit ≤ 10 ^ 12 → IsSmallLoop net.entry.looped → net.moves + 1 < 2 ^ 64
 move_fits net going s few small =
     let units = length net.entry.looped.body in
-    let product : net.limit * (units + 1) ≤ 10 ^ 12 * 2 ^ 20 = mul-le net.limit (units + 1) (10 ^ 12) (2 ^ 20) few (omega (arith, few_units net.entry.looped small)) in
-    omega (arith, falls net going, s.few, product)
+    let granted : net.granted ≤ 10 ^ 12 = omega (arith, s.within, few) in
+    let product : net.granted * (units + 1) ≤ 10 ^ 12 * 2 ^ 20 =
+    mul-le net.granted (units + 1) (10 ^ 12) (2 ^ 20) granted (omega (arith, few_units net.entry.looped small)) in
+    omega (arith, few_moves net.place net.end net.moves net.granted units going s.counted, product)

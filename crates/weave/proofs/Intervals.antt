@@ -2,6 +2,7 @@
 use Rattle.std.proofs.Common.{◌≡◌, ◌≤◌, ℕ, List, sym, ap, subst, ◌∙◌}
 use Rattle.std.specs.Int.{int_gap}
 use Rattle.nona_tree.specs.Run.{Ran as Run, done}
+use Rattle.morta_task.specs.declared.schemes.Scheme.{Scheme}
 use Rattle.morta_task.specs.declared.schemes.Scheme.TheVariants.{Seq}
 use Rattle.morta_task.specs.declared.schemes.Config.{Config}
 use Rattle.morta_task.specs.declared.intervals.Handoff.{Handoff}
@@ -12,7 +13,7 @@ use Rattle.weave.specs.declared.script.Command.{Command}
 use Rattle.weave.specs.Machines.{RunsOut}
 use Rattle.weave.specs.Following.{Followed, follow}
 use Rattle.weave.specs.SeqNet.{SeqNet, seq_machine, begun_net, ran_of}
-use Rattle.weave.specs.Replay.{followed_in_sequence, left_by, IsReplayed}
+use Rattle.weave.specs.Replay.{followed_in_sequence, commands_left, commands_left_in, IsReplayed, IsReplayedIn}
 use Rattle.weave.proofs.RunsOut.{out_is_over}
 use Rattle.weave.proofs.Ends.{sound_end, is_done, handed_on}
 
@@ -55,12 +56,16 @@ interval_hands_on e handoff next limit commands end done entered state h is on s
       store = stored ∙ handed_on e handoff.next limit handoff.store end over sound ∙ ap (λ (r : Ran). (state_after e (before e r.to)).store) (sym is);
     }
 
-pub interval_replayed : (e : EntryView) (handoff : Handoff) (limit : ℕ) (commands : List Command) (end : SeqNet) (done : Ran) → IsHandoff e handoff
-    → HasRunOut e handoff limit commands end → done ≡ ran_of end → IsReplayed Seq e handoff.next limit commands done
-interval_replayed e handoff limit commands end done state h is =
+pub interval_replayed : (capacity : ℕ) (config : Config) (e : EntryView) (handoff : Handoff) (limit : ℕ) (commands : List Command) (end : SeqNet) (done : Ran)
+    → config.scheme ≡ Seq → IsHandoff e handoff → HasRunOut e handoff limit commands end → done ≡ ran_of end
+    → IsReplayed capacity config e handoff.next limit commands done
+interval_replayed capacity config e handoff limit commands end done seq state h is =
+    subst (λ (s : Scheme). IsReplayedIn s config.workers capacity e handoff.next limit commands done) (sym seq)
     (end, subst (λ (f : Followed SeqNet). RunsOut seq_machine f.net end) (sym (same_follow e handoff limit commands state)) (runs_out e handoff limit commands end h), is)
 
-pub interval_left : (e : EntryView) (handoff : Handoff) (limit : ℕ) (commands : List Command) (end : SeqNet) → IsHandoff e handoff
-    → (h : HasRunOut e handoff limit commands end) → left_by Seq e handoff.next limit commands ≡ h.left
-interval_left e handoff limit commands end state h =
-    ap (λ (f : Followed SeqNet). f.left) (same_follow e handoff limit commands state ∙ ap (follow seq_machine commands) (sym h.begun) ∙ h.follows)
+pub interval_left : (capacity : ℕ) (config : Config) (e : EntryView) (handoff : Handoff) (limit : ℕ) (commands : List Command) (end : SeqNet)
+    → config.scheme ≡ Seq → IsHandoff e handoff
+    → (h : HasRunOut e handoff limit commands end) → commands_left capacity config e handoff.next limit commands ≡ h.left
+interval_left capacity config e handoff limit commands end seq state h =
+    ap (λ (s : Scheme). commands_left_in s config.workers capacity e handoff.next limit commands) seq
+    ∙ ap (λ (f : Followed SeqNet). f.left) (same_follow e handoff limit commands state ∙ ap (follow seq_machine commands) (sym h.begun) ∙ h.follows)

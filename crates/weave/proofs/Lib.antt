@@ -1,4 +1,5 @@
 pub mod SeqLaws
+pub mod Counts
 pub mod Sound
 pub mod RunsOut
 pub mod Ends
@@ -7,3 +8,4 @@ pub mod Steps
 pub mod Exact
 pub mod Intervals
 pub mod Asks
+pub mod Agree

@@ -14,7 +14,7 @@ use Rattle.nona_tree.proofs.Turns.{end_stays}
 use Rattle.nona_walk.proofs.Counts.{after_statement}
 use Rattle.nona_walk.proofs.Parts.{in_for}
 use Rattle.morta_task.specs.Entries.{EntryView, IsEntered, loop_of, state_after}
-use Rattle.weave.specs.SeqNet.{SeqNet, Place, Claims, Unit_of, Finished, at_units, is_granted, behind_unit, step_at, moved, is_finished}
+use Rattle.weave.specs.SeqNet.{SeqNet, Stand, Claims, Unit_of, Finished, at_units, is_granted, behind_unit, step_at, moved, is_finished}
 use Rattle.weave.specs.SeqState.{InIteration, StandsAt, moves_at, moves_left}
 
 -- fewer iterations are done where more are
@@ -59,7 +59,7 @@ falls_unit s rest (outcome.Trap t) m net = omega arith
 falls_unit s rest (outcome.OutOfTurns at) m net = omega arith
 
 -- a step leaves fewer moves
-pub falls_at : (p : Place) (net : SeqNet) → is_finished p ≡ false
+pub falls_at : (p : Stand) (net : SeqNet) → is_finished p ≡ false
     → moves_left (step_at p net) + 1 ≤ moves_at p (net.limit - net.granted) (length net.entry.looped.body)
 falls_at Claims net going = falls_claim (is_granted net) net refl
 falls_at (Unit_of s rest) net going =
@@ -145,7 +145,7 @@ stands_behind (outcome.OutOfTurns at) s rest m net ran here =
     (ap (state_after net.entry) here.1 ∙ ended_in net.entry here.0 s rest net.store m (outcome.OutOfTurns at) here.2 ran (λ h. (cc)), inr here.3)
 
 -- the place after a step
-pub stands_on : (p : Place) (net : SeqNet) → IsEntered net.entry → is_finished p ≡ false → StandsAt p net → StandsAt (step_at p net).place (step_at p net)
+pub stands_on : (p : Stand) (net : SeqNet) → IsEntered net.entry → is_finished p ≡ false → StandsAt p net → StandsAt (step_at p net).place (step_at p net)
 stands_on Claims net entered going here = stands_claimed (is_granted net) net entered here
 stands_on (Unit_of s rest) net entered going here =
     let r = run s net.entry.turns net.store in stands_behind r.end s rest r.store net refl here

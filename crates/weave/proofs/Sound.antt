@@ -1,14 +1,15 @@
 -- Each step keeps what the machine of an interval under `seq` has.
-use Rattle.std.proofs.Common.{◌≡◌, ◌≤◌, ◌+◌, ◌-◌, ◌*◌, ℕ, pos, ◌+ℤ◌, Bool, true, false, List, [], ◌∷◌, length, refl, ap, subst, ◌∙◌, arith, if◌then◌else◌}
+use Rattle.std.proofs.Common.{◌≡◌, ◌≤◌, ◌+◌, ◌-◌, ℕ, pos, ◌+ℤ◌, Bool, true, false, List, [], ◌∷◌, refl, ap, subst, ◌∙◌, arith, if◌then◌else◌}
 use Rattle.nona_tree.specs.declared.outcomes.Outcome.{Outcome}
 use Rattle.nona_tree.specs.declared.outcomes.Outcome.TheVariants as outcome
 use Rattle.nona_tree.specs.declared.trees.Stmt.{Stmt}
 use Rattle.nona_tree.specs.Memory.{Memory, declare}
 use Rattle.nona_tree.specs.Run.{Ran as Run, done, run}
 use Rattle.morta_task.specs.Entries.{EntryView, IsEntered, state_after}
-use Rattle.weave.specs.SeqNet.{SeqNet, Place, Claims, Unit_of, Finished, at_units, is_granted, behind_unit, step_at, moved, is_finished, seq_machine, begun_net}
-use Rattle.weave.specs.SeqState.{StandsAt, moves_most, IsSound}
-use Rattle.weave.proofs.SeqLaws.{done_before, granted_below, falls, stands_on}
+use Rattle.weave.specs.SeqNet.{SeqNet, Stand, Claims, Unit_of, Finished, at_units, is_granted, behind_unit, step_at, moved, is_finished, seq_machine, begun_net}
+use Rattle.weave.specs.SeqState.{StandsAt, IsSound}
+use Rattle.weave.proofs.SeqLaws.{done_before, granted_below, stands_on}
+use Rattle.weave.proofs.Counts.{counted_moved, counted_begun}
 
 -- the interval is the same one
 pub record SameInterval (net next : SeqNet) : Type 0 where
@@ -76,7 +77,7 @@ unit_steps (outcome.OutOfTurns at) rest m net c = record {
   claimed = record { within = c.within; quiet = c.quiet };
 }
 
-steps_at : (p : Place) (net : SeqNet) → is_finished p ≡ false → StandsAt p net → Claimed net → Steps net (step_at p net)
+steps_at : (p : Stand) (net : SeqNet) → is_finished p ≡ false → StandsAt p net → Claimed net → Steps net (step_at p net)
 steps_at Claims net going here c = claim_steps (is_granted net) net refl c (ap (λ (r : Run). r.end) here.0)
 steps_at (Unit_of s rest) net going here c =
     let r = run s net.entry.turns net.store in unit_steps r.end rest r.store net c
@@ -97,16 +98,15 @@ pub same_moved : (net : SeqNet) → is_finished net.place ≡ false → IsSound 
 same_moved net going s =
     let k = (steps_of net going s).same in record { entry = k.entry; before = k.before; limit = k.limit }
 
--- the most moves are those of the interval
-same_most : (net next : SeqNet) → SameInterval net next → moves_most next ≡ moves_most net
-same_most net next k =
-    ap (λ (l : ℕ). l * (length next.entry.looped.body + 1) + 1) k.limit
-    ∙ ap (λ (e : EntryView). net.limit * (length e.looped.body + 1) + 1) k.entry
-
-stands_again : (p : Place) (net : SeqNet) (moves : ℕ) → StandsAt p net → StandsAt p (record net { moves = moves })
+stands_again : (p : Stand) (net : SeqNet) (moves : ℕ) → StandsAt p net → StandsAt p (record net { moves = moves })
 stands_again Claims net moves here = (here.0, here.1)
 stands_again (Unit_of s rest) net moves here = (here.0, here.1, here.2, here.3, here.4)
 stands_again Finished net moves here = (here.0, here.1)
+
+still_going : (p : Stand) (net : SeqNet) → is_finished p ≡ false → StandsAt p net → net.end ≡ outcome.Done
+still_going Claims net going here = here.1
+still_going (Unit_of s rest) net going here = here.4
+still_going Finished net going here = cc
 
 -- a step keeps what one thread has
 pub sound_moved : (net : SeqNet) → IsEntered net.entry → is_finished net.place ≡ false → IsSound net → IsSound (moved net)
@@ -117,14 +117,13 @@ sound_moved net entered going s =
       within = k.claimed.within;
       quiet = k.claimed.quiet;
       stands = stands_again next.place next (net.moves + 1) (stands_on net.place net entered going s.stands);
-      some = omega arith;
-      few = omega (arith, falls net going, s.few, same_most net (moved net) (same_moved net going s));
+      counted = counted_moved net going (still_going net.place net going s.stands) s.counted;
     }
 
 -- the pause keeps it
 pub sound_paused : (net : SeqNet) → IsSound net → IsSound (seq_machine.pause net)
-sound_paused net s = record { within = s.within; quiet = s.quiet; stands = paused net.place s.stands; some = s.some; few = s.few } where
-  paused : (p : Place) → StandsAt p net → StandsAt p (record net { paused = true })
+sound_paused net s = record { within = s.within; quiet = s.quiet; stands = paused net.place s.stands; counted = s.counted } where
+  paused : (p : Stand) → StandsAt p net → StandsAt p (record net { paused = true })
   paused Claims here = (here.0, here.1)
   paused (Unit_of u rest) here = (here.0, here.1, here.2, here.3, here.4)
   paused Finished here = (here.0, here.1)
@@ -133,12 +132,10 @@ sound_paused net s = record { within = s.within; quiet = s.quiet; stands = pause
 pub sound_begun : (e : EntryView) (before limit : ℕ) (m : Memory) → state_after e before ≡ done m → IsSound (begun_net e before limit m)
 sound_begun e before limit m ready =
     let none : before + 0 ≡ before = omega arith in
-    let all : limit - 0 ≡ limit = omega arith in
     let here : state_after e (before + 0) ≡ done m = ap (state_after e) none ∙ ready in
     record {
       within = omega arith;
       quiet = done_before e (before + 0 - 1) before (omega arith) (ap (λ (r : Run). r.end) ready);
       stands = (here, refl);
-      some = omega arith;
-      few = omega (arith, ap (λ (n : ℕ). n * (length e.looped.body + 1)) all);
+      counted = counted_begun e before limit m;
     }

@@ -9,3 +9,4 @@ pub mod Net
 pub mod WeaveView
 pub mod WeaveInside
 pub mod WeavePromise
+pub mod ReplayLaws

@@ -4,10 +4,10 @@ use Rattle.std.specs.Int.{w64}
 use Rattle.nona_tree.specs.declared.trees.Stmt.{Stmt}
 use Rattle.nona_tree.specs.Memory.{Memory, cut_to}
 use Rattle.morta_task.specs.Entries.{IsEntered, before}
-use Rattle.weave.specs.declared.net.Place.{Place}
-use Rattle.weave.specs.declared.net.Place.TheVariants as place
+use Rattle.weave.specs.declared.net.Position.{Position}
+use Rattle.weave.specs.declared.net.Position.TheVariants as place
 use Rattle.weave.specs.declared.net.Net.{Net}
-use Rattle.weave.specs.SeqNet.{SeqNet, Place as Stand, Claims, Unit_of, Finished}
+use Rattle.weave.specs.SeqNet.{SeqNet, Stand, Claims, Unit_of, Finished}
 use Rattle.weave.specs.SeqState.{IsSound}
 
 -- before the first of these units, or before a claim where there is none
@@ -21,13 +21,13 @@ store_before depth [] m = cut_to depth m
 store_before depth (s ∷ rest) m = m
 
 -- where the task of a machine with these units stands
-abbrev pub stand_of : List Stmt → Place → Stand
+abbrev pub stand_of : List Stmt → Position → Stand
 stand_of units place.Claims = Claims
 stand_of units (place.Unit at) = place_before (drop at units)
 stand_of units place.Finished = Finished
 
 -- a unit of an iteration has a number among them
-abbrev pub IsPlace : List Stmt → Place → Type 0
+abbrev pub IsPlace : List Stmt → Position → Type 0
 IsPlace units place.Claims = Unit {0}
 IsPlace units (place.Unit at) = at < length units
 IsPlace units place.Finished = Unit {0}

@@ -5,17 +5,16 @@ use Rattle.nona_tree.specs.declared.outcomes.Outcome.TheVariants as outcome
 use Rattle.nona_tree.specs.declared.trees.Stmt.{Stmt}
 use Rattle.nona_tree.specs.Memory.{Memory, declare, cut_to}
 use Rattle.nona_tree.specs.Run.{Ran as Run, run}
-use Rattle.morta_task.specs.declared.intervals.Cut.{Cut}
-use Rattle.morta_task.specs.declared.intervals.Cut.TheVariants.{Limit, Paused, Trap, Turns}
 use Rattle.morta_task.specs.declared.intervals.Ran.{Ran}
 use Rattle.morta_task.specs.Entries.{EntryView}
+use Rattle.morta_task.specs.Running.{cut_of}
 use Rattle.weave.specs.Machines.{Machine}
 
 -- where the task stands: before a claim, before a unit of its iteration, with those behind it, or finished
-pub data Place : Type 0 where
-  Claims : Place
-  Unit_of : Stmt → List Stmt → Place
-  Finished : Place
+pub data Stand : Type 0 where
+  Claims : Stand
+  Unit_of : Stmt → List Stmt → Stand
+  Finished : Stand
 
 -- The entry; how many iterations of it were done before the interval; the limit of the interval; how many claims were
 -- granted; whether the pause mark is set; where the task stands; the store, with the scalars of the iteration that it is in;
@@ -26,7 +25,7 @@ pub record SeqNet : Type 0 where
   pub limit : ℕ
   pub granted : ℕ
   pub paused : Bool
-  pub place : Place
+  pub place : Stand
   pub store : Memory
   pub end : Outcome
   pub moves : ℕ
@@ -78,7 +77,7 @@ abbrev pub unit_done : List Stmt → Run → SeqNet → SeqNet
 unit_done rest r net = behind_unit rest r.end r.store net
 
 -- what a step makes of a net where the task stands so
-abbrev pub step_at : Place → SeqNet → SeqNet
+abbrev pub step_at : Stand → SeqNet → SeqNet
 step_at Claims net = claimed net
 step_at (Unit_of s rest) net = unit_done rest (run s net.entry.turns net.store) net
 step_at Finished net = net
@@ -88,7 +87,7 @@ abbrev pub moved : SeqNet → SeqNet
 moved net = let next = step_at net.place net in record next { moves = net.moves + 1 }
 
 -- whether the task has finished
-abbrev pub is_finished : Place → Bool
+abbrev pub is_finished : Stand → Bool
 is_finished Claims = false
 is_finished (Unit_of s rest) = false
 is_finished Finished = true
@@ -102,13 +101,6 @@ seq_machine = record {
   step = λ net task. moved net;
   pause = λ net. record net { paused = true };
 }
-
--- why an interval ended: its last iteration ended otherwise than done; or it was paused, where fewer iterations were granted
--- than the limit; or all were done
-abbrev pub cut_of : Outcome → ℕ → ℕ → Cut
-cut_of outcome.Done granted limit = if nat_lt granted limit then Paused else Limit
-cut_of (outcome.Trap t) granted limit = Trap t
-cut_of (outcome.OutOfTurns at) granted limit = Turns at
 
 -- what an interval did whose task has finished: its steps are the moves, and its ticks those of the task that moved most
 abbrev pub ran_of : SeqNet → Ran

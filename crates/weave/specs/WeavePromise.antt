@@ -6,7 +6,7 @@ use Rattle.morta_task.specs.Entries.{EntryView}
 use Rattle.morta_task.specs.LogView.{LogView, IsAtHand}
 use Rattle.morta_task.specs.Running.{limit_of}
 use Rattle.morta_task.specs.Promise.{Promise}
-use Rattle.weave.specs.Replay.{behind_use, left_behind, left_at, current_at, next_request, IsReplayed, IsReplayOf, script_asks, UsesScheme}
+use Rattle.weave.specs.Replay.{behind_use, left_behind, left_at, current_at, IsReplayed, IsReplayOf, script_asks, UsesScheme}
 use Rattle.weave.specs.WeaveView.{WeaveView}
 
 -- the log is what the replay of the script makes, and these commands are left behind it, with this configuration

@@ -46,7 +46,8 @@ fn obey(command: Command, net: &mut Net<'_>) -> Result<bool, AllocError>
 /// and the machine is then spent.
 pub fn follow(commands: &[Command], first: usize, net: &mut Net<'_>) -> Result<usize, AllocError>
     requires { IsNet net.old }
-    ensures follows { IfOk result (λ at. followed seq_machine (drop first commands.now) (net_of net.old) ≡ record { net = net_of net.new; left = drop at commands.now }) }
+    ensures follows { IfOk result (λ at. followed seq_machine (drop first commands.now) (net_of net.old)
+        ≡ record { net = net_of net.new; left = drop at commands.now }) }
     ensures sound { OnOk result (IsNet net.new) }
 {
     'commands: for at in first..commands.len() {

@@ -1,15 +1,44 @@
-//! Laws of the machines. Each function does nothing when it is called: its contract is the law.
+//! Laws of machines and of replays. Each function does nothing when it is called: its contract is the law.
 
-ghost use Rattle.std.specs.Prelude.{◌≡◌, ℕ, ◌+◌, ◌*◌, length};
+ghost use Rattle.std.specs.Prelude.{◌≡◌, ℕ, ◌≤◌, List, length, take};
 ghost use Rattle.nona_tree.specs.declared.outcomes.Outcome.TheVariants as outcome;
 ghost use Rattle.nona_tree.specs.Memory.{Memory};
+ghost use Rattle.morta_task.specs.declared.schemes.Ask.{Ask};
 ghost use Rattle.morta_task.specs.Entries.{EntryView};
+ghost use Rattle.morta_task.specs.Legal.{EndsAll, last_in};
+ghost use Rattle.morta_task.specs.LogView.{LogView};
+ghost use Rattle.weave.specs.declared.script.Command.{Command};
+ghost use Rattle.weave.specs.Following.{follow};
 ghost use Rattle.weave.specs.Machines.{RunsOut};
+ghost use Rattle.weave.specs.Replay.{IsReplay};
 ghost use Rattle.weave.specs.SeqNet.{SeqNet, seq_machine, begun_net};
+ghost use Rattle.weave.specs.SeqState.{HasMoved, HasEndedAfter};
 
-/// Says how often the task of an interval under `seq` moves that no command touched and no unit ended: it claims up to the
-/// limit, does each unit of each iteration, and claims once more in vain.
+/// Says how often the task of an interval under `seq` moves, wherever commands fall: at each moment once for each claim that was
+/// granted and once for each unit that is done, and at the end once more for the claim that was refused, or up to the unit that
+/// stopped it. Where no command falls and no unit stops it, all claims up to the limit were granted.
 pub fn seq_moves()
-    ensures granted { (e : EntryView) (before limit : ℕ) (m : Memory) (end : SeqNet) → RunsOut seq_machine (begun_net e before limit m) end → end.end ≡ outcome.Done → end.granted ≡ limit }
-    ensures moves { (e : EntryView) (before limit : ℕ) (m : Memory) (end : SeqNet) → RunsOut seq_machine (begun_net e before limit m) end → end.end ≡ outcome.Done → end.moves ≡ end.granted * (length e.looped.body + 1) + 1 }
+    ensures each { (e : EntryView) (before limit : ℕ) (m : Memory) (commands : List Command)
+        → HasMoved (follow seq_machine commands (begun_net e before limit m)).net }
+    ensures end { (e : EntryView) (before limit : ℕ) (m : Memory) (commands : List Command) (end : SeqNet)
+        → RunsOut seq_machine (follow seq_machine commands (begun_net e before limit m)).net end
+        → HasEndedAfter end.end end.moves end.granted (length e.looped.body) }
+    ensures granted { (e : EntryView) (before limit : ℕ) (m : Memory) (end : SeqNet)
+        → RunsOut seq_machine (begun_net e before limit m) end → end.end ≡ outcome.Done → end.granted ≡ limit }
+{}
+
+/// Says that a machine runs out to one end.
+pub fn runs_out_to_one()
+    ensures { (net one other : SeqNet) → RunsOut seq_machine net one → RunsOut seq_machine net other → one ≡ other }
+{}
+
+/// Says that the replay is one: two logs of the replay of the same commands by the same requests, over the same entries, agree as
+/// far as the shorter one goes, and two that have come to the end of the run are equal. So what ran of a replay is its first part.
+pub fn replays_agree()
+    ensures first_part { (asks : EntryView → LogView → Ask) (capacity : ℕ) (commands : List Command) (es : List EntryView) (l k : LogView)
+        → IsReplay asks capacity commands es l → IsReplay asks capacity commands es k
+        → length l.intervals ≤ length k.intervals → l.intervals ≡ take (length l.intervals) k.intervals }
+    ensures whole { (asks : EntryView → LogView → Ask) (capacity : ℕ) (commands : List Command) (es : List EntryView) (l k : LogView)
+        → IsReplay asks capacity commands es l → IsReplay asks capacity commands es k
+        → EndsAll es (last_in l.intervals) → EndsAll es (last_in k.intervals) → l ≡ k }
 {}

@@ -8,9 +8,6 @@ mod net;
 mod script;
 mod weaving;
 
-pub use laws::seq_moves;
+pub use laws::{replays_agree, runs_out_to_one, seq_moves};
 pub use script::{Command, Script};
 pub use weaving::Weave;
-
-#[cfg(test)]
-mod tests;

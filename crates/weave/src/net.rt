@@ -2,24 +2,23 @@
 
 ghost use Rattle.std.specs.Prelude.{◌≡◌, ◌≤◌, drop, false, OnOk};
 ghost use Rattle.std.specs.Int.{int_gap};
-ghost use Rattle.nona_tree.specs.Memory.{cut_to};
 ghost use Rattle.morta_task.specs.Entries.{IsEntered, before, last};
 ghost use Rattle.morta_task.specs.Running.{IsHandoff};
 ghost use Rattle.weave.specs.Machines.{RunsOut, step_times as stepped_times};
-ghost use Rattle.weave.specs.SeqNet.{seq_machine, begun_net, claimed, step_at, moved, is_finished as has_finished, ran_of, cut_of as cut_by};
-ghost use Rattle.weave.specs.declared.net.Place.TheVariants as place;
+ghost use Rattle.weave.specs.SeqNet.{seq_machine, begun_net, claimed, step_at, moved, is_finished as has_finished, ran_of};
+ghost use Rattle.weave.specs.declared.net.Position.TheVariants as place;
 ghost use Rattle.weave.specs.Net.{place_before, store_before, stand_of, IsPlace, net_of, IsSet, IsNet};
 
 use morta_task::{Cut, Entry, Handoff, Ran, Work};
 use nona_num::offset;
 use nona_store::Store;
 use nona_tree::{Loop, Outcome, Stmt};
-use nona_walk::walk;
+use nona_walk::{leave, walk};
 use std::alloc::AllocError;
 
 /// Where the task stands.
 #[derive(Clone, Copy)]
-pub enum Place {
+pub enum Position {
     /// Before a claim.
     Claims,
     /// Before the unit of its iteration that has this number, from 0.
@@ -42,7 +41,7 @@ pub struct Net<'a> {
     limit: u64,
     granted: u64,
     paused: bool,
-    place: Place,
+    place: Position,
     store: Store,
     /// How the last iteration ended.
     end: Outcome,
@@ -50,43 +49,18 @@ pub struct Net<'a> {
     moves: u64,
 }
 
-/// Cuts off the scalars behind the first `depth`.
-fn cut(depth: usize, store: &mut Store)
-    ensures { store.new ≡ cut_to depth store.old }
-{
-    let behind = store.depth().saturating_sub(depth);
-    store.cut_scalars(behind);
-}
-
 /// The place before the unit with this number. Behind the last one it is that before a claim, and the scalars behind the
 /// first `depth` go.
-fn arrive(units: &[Stmt], at: usize, depth: usize, store: &mut Store) -> Place
+fn arrive(units: &[Stmt], at: usize, depth: usize, store: &mut Store) -> Position
     ensures place { stand_of units.now result ≡ place_before (drop at units.now) }
     ensures store { store.new ≡ store_before depth (drop at units.now) store.old }
     ensures number { IsPlace units.now result }
 {
     if at < units.len() {
-        Place::Unit(at)
+        Position::Unit(at)
     } else {
-        cut(depth, store);
-        Place::Claims
-    }
-}
-
-/// Why an interval ended with this end, where so many iterations were granted.
-fn cut_of(end: Outcome, granted: u64, limit: u64) -> Cut
-    ensures { result ≡ cut_by end granted limit }
-{
-    match end {
-        Outcome::Done => {
-            if granted < limit {
-                Cut::Paused
-            } else {
-                Cut::Limit
-            }
-        }
-        Outcome::Trap(trap) => Cut::Trap(trap),
-        Outcome::OutOfTurns { at } => Cut::Turns { at },
+        leave(depth, store);
+        Position::Claims
     }
 }
 
@@ -112,7 +86,7 @@ impl<'a> Net<'a> {
             limit,
             granted: 0,
             paused: false,
-            place: Place::Claims,
+            place: Position::Claims,
             store,
             end: Outcome::Done,
             moves: 0,
@@ -124,7 +98,7 @@ impl<'a> Net<'a> {
         ensures { result ≡ has_finished (net_of self.now).place }
     {
         match self.place {
-            Place::Finished => true,
+            Position::Finished => true,
             _ => false,
         }
     }
@@ -145,7 +119,7 @@ impl<'a> Net<'a> {
         ensures set { OnOk result (IsSet self.new) }
     {
         if self.paused || self.granted >= self.limit {
-            self.place = Place::Finished;
+            self.place = Position::Finished;
             return Ok(());
         }
         let index = offset(self.from, self.granted);
@@ -168,9 +142,9 @@ impl<'a> Net<'a> {
                 self.place = arrive(self.units, at + 1, self.depth, &mut self.store);
             }
             end => {
-                cut(self.depth, &mut self.store);
+                leave(self.depth, &mut self.store);
                 self.end = end;
-                self.place = Place::Finished;
+                self.place = Position::Finished;
             }
         }
         Ok(())
@@ -183,9 +157,9 @@ impl<'a> Net<'a> {
         ensures set { OnOk result (IsSet self.new) }
     {
         match self.place {
-            Place::Claims => self.claim(),
-            Place::Unit(at) => self.do_unit(at),
-            Place::Finished => Ok(()),
+            Position::Claims => self.claim(),
+            Position::Unit(at) => self.do_unit(at),
+            Position::Finished => Ok(()),
         }
     }
 
@@ -244,7 +218,7 @@ impl<'a> Net<'a> {
                 waits: 0,
             }),
             ticks: self.moves,
-            cut: cut_of(self.end, self.granted, self.limit),
+            cut: Cut::of(self.end, self.granted, self.limit),
         };
         let handoff = Handoff {
             next: to,

@@ -2,12 +2,11 @@
 
 ghost use Rattle.std.specs.Prelude.{◌≡◌, ◌≤◌, drop, IfOk, OnOk, MatchOption};
 ghost use Rattle.std.specs.Int.{int_gap};
-ghost use Rattle.morta_task.specs.declared.schemes.Config.{Config};
 ghost use Rattle.morta_task.specs.declared.schemes.Scheme.TheVariants.{Seq};
 ghost use Rattle.morta_task.specs.Entries.{IsEntered, last};
 ghost use Rattle.morta_task.specs.Running.{IsHandoff, IsDone, HandsOn, seq_one};
 ghost use Rattle.weave.specs.Following.{AreCommands};
-ghost use Rattle.weave.specs.Replay.{left_by, IsReplayed};
+ghost use Rattle.weave.specs.Replay.{commands_left, IsReplayed};
 ghost use Rattle.weave.specs.Asking.{IsNoUse, IsUseAt};
 ghost use Rattle.weave.specs.WeavePromise.{weave_promise};
 ghost use Rattle.weave.specs.ReplayLaws.{led_by_any, runs_on};
@@ -85,24 +84,27 @@ impl Weave {
         self.capacity
     }
 
-    /// Runs an interval of an entry to this loop under `seq`: the commands are followed, and then the task steps until it has
+    /// Runs an interval of an entry to this loop in one thread: the commands are followed, and then the task steps until it has
     /// finished. An error comes where memory runs out: the handoff is then spent.
     pub(crate) fn run_in_sequence(
         &mut self,
         looped: &Loop,
         entry: &Entry,
         handoff: Handoff,
+        config: Config,
         limit: u64,
     ) -> Result<(Handoff, Ran), AllocError>
+        requires seq { config.scheme ≡ Seq }
         requires entered { IsEntered entry.now }
         requires looped { looped.now ≡ entry.now.looped }
         requires state { IsHandoff entry.now handoff }
         requires room { limit ≤ int_gap handoff.next (last entry.now) }
-        ensures done { IfOk result (λ r. (c : Config) → c.scheme ≡ Seq → IsDone entry.now c handoff.next limit r.1) }
+        ensures done { IfOk result (λ r. IsDone entry.now config handoff.next limit r.1) }
         ensures hands_on { IfOk result (λ r. HandsOn entry.now r.1 r.0) }
-        ensures replayed { IfOk result (λ r. IsReplayed Seq entry.now handoff.next limit self.old.left r.1) }
-        ensures left { OnOk result (self.new ≡ record self.old { left = left_by Seq entry.now handoff.next limit self.old.left }) }
+        ensures replayed { IfOk result (λ r. IsReplayed self.old.capacity config entry.now handoff.next limit self.old.left r.1) }
+        ensures left { OnOk result (self.new ≡ record self.old { left = commands_left self.old.capacity config entry.now handoff.next limit self.old.left }) }
     {
+        let _ = config;
         let mut net = Net::begin(entry, looped, handoff, limit);
         self.at = follow(&self.script.commands, self.at, &mut net)?;
         net.run_out()?;
@@ -115,7 +117,7 @@ impl Morta for Weave {
 }
 
 impl Runner for Weave {
-    ghost runs_only = { λ w log h. h.1 };
+    ghost runs_only = { λ w log h. h.replay };
 
     ghost led = { record { by_any = λ w log e from ask led hand h. led_by_any w log e led hand h; untold = λ w log e i led h. runs_on w log e i h } };
 
@@ -124,17 +126,17 @@ impl Runner for Weave {
         image: &Image,
         entry: &Entry,
         handoff: Handoff,
-        _config: Config,
+        config: Config,
         limit: u64,
     ) -> Result<(Handoff, Ran), AllocError> {
         let code = image.region(entry.region());
-        let done = self.run_in_sequence(&code.looped, entry, handoff, limit)?;
+        let done = self.run_in_sequence(&code.looped, entry, handoff, config, limit)?;
         Ok(done)
     }
 }
 
 impl Asker for Weave {
-    ghost stands_only = { λ w log h. h.1 };
+    ghost stands_only = { λ w log h. h.replay };
 
     ghost asks_alone = { λ w log e from ask i alone h is. absurd alone };
 

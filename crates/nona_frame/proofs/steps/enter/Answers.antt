@@ -1,4 +1,4 @@
-use Rattle.std.proofs.Common.{◌+◌, List, ap, sym, subst, ◌∙◌, reverse}
+use Rattle.std.proofs.Common.{◌≡◌, ◌+◌, List, ap, sym, subst, ◌∙◌}
 use Rattle.nona_tree.specs.declared.trees.Stmt.{Stmt, If, While}
 use Rattle.nona_tree.specs.Entries.{count_all}
 use Rattle.nona_walk.proofs.Parts.{in_if, in_while}
@@ -26,8 +26,8 @@ returns-in-If-clause-steps c =
     let inner = c.inside-inner.ensures in
     let both = if_marked chosen c.args.statement.now c.in-If.test yes no c.args.marks.now.marks.items c.args.here c.inside-inner.result c.in-If.is c.requires.marked (ap (λ q. q.first) inner) (ap (λ q. q.mark) inner) in
     let numbers = (c.behind.ensures (count_all chosen yes) (count_all chosen no) (marks_all chosen yes) (marks_all chosen no) both).1 in
-    let numbered = rw c.as_slice.ensures (numbers ∙ ap (λ q. q.first + count_all chosen yes) (sym c.inside.ensures)) in
-    begins_same chosen c.inside.result.first c.args.here.first (If c.in-If.test c.as_slice.result.now c.as_slice-in-If.result.now) c.args.statement.now c.args.turns c.args.store.now _ _ _ _
+    let numbered : c.behind.result.first ≡ c.inside.result.first + count_all chosen c.as_slice.result.now = rw c.as_slice.ensures (numbers ∙ ap (λ q. q.first + count_all chosen yes) (sym c.inside.ensures)) in
+    begins_same chosen c.inside.result.first c.args.here.first (If c.in-If.test c.as_slice.result.now c.as_slice-in-If.result.now) c.args.statement.now c.args.turns c.args.store.now c.args.tasks.now.items c.choose.result c.args.store.now c.choose.new.tasks.items
     (ap (λ q. q.first) c.inside.ensures ∙ ap (λ q. q.first) inner) ((λ i. If c.in-If.test (c.as_slice.ensures i) (c.as_slice-in-If.ensures i)) ∙ sym c.in-If.is) (c.choose.ensures.steps chosen numbered)
 
 pub returns-in-If-clause-ready : goal.returns-in-If-clause-ready
@@ -51,7 +51,7 @@ returns-in-If-clause-cost c =
 pub returns-in-While-clause-steps : goal.returns-in-While-clause-steps
 returns-in-While-clause-steps c =
     let chosen = chosen_in c.args.marks.now in
-    begins_same chosen c.inside-in-While.result.first c.args.here.first (While c.in-While.test c.as_slice-in-While.result.now c.in-While.at) c.args.statement.now c.args.turns c.args.store.now _ _ _ _
+    begins_same chosen c.inside-in-While.result.first c.args.here.first (While c.in-While.test c.as_slice-in-While.result.now c.in-While.at) c.args.statement.now c.args.turns c.args.store.now c.args.tasks.now.items c.enter_while.result c.args.store.now c.enter_while.new.tasks.items
     (ap (λ q. q.first) c.inside-in-While.ensures) (ap (λ ss. While c.in-While.test ss c.in-While.at) c.as_slice-in-While.ensures ∙ sym c.in-While.is) (c.enter_while.ensures.steps chosen c.args.store.now)
 
 pub returns-in-While-clause-ready : goal.returns-in-While-clause-ready

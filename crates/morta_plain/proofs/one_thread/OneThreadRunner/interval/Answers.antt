@@ -2,12 +2,13 @@ use Rattle.std.proofs.Common.{rules, ◌≡◌, ◌+◌, length, pos, ◌+ℤ◌
 use Rattle.std.proofs.lemmas.Int.{to_z-of_z}
 use Rattle.nona_tree.specs.Run.{Ran as End, done}
 use Rattle.nona_tree.specs.Scope.{AreScoped}
+use Rattle.morta_task.specs.declared.intervals.Ran.{Ran}
 use Rattle.morta_task.specs.Entries.{before, state_after}
-use Rattle.morta_plain.proofs.Course.{scoped_on, one_on, all_on, done_limit, done_end, handed_on}
+use Rattle.morta_plain.proofs.Course.{scoped_on, one_on, all_on, done_limit, done_end, handed_on, not_paused}
 use Rattle.morta_plain.proofs.one_thread.OneThreadRunner.interval.Goals as goal
 
-pub iterate-requires : goal.iterate-requires
-iterate-requires c =
+pub walk_turn-requires : goal.walk_turn-requires
+walk_turn-requires c =
     let e = c.args.entry.now in
     subst (λ ss. AreScoped ss (length c.iterations.store.scalars + 1) (length c.iterations.store.arrays)) (sym c.body_of-body.ensures)
     (scoped_on e (before e c.args.handoff.next + c.iterations.k) c.iterations.store c.requires.may.entered c.iterations.invariant)
@@ -21,9 +22,9 @@ pub iterations-preserved : goal.iterations-preserved
 iterations-preserved c =
     let plain = to_z-of_z w64 c.args.handoff.next (search rules) in
     let index = to_z-of_z w64 c.index_on.result (search rules) ∙ c.index_on.ensures ∙ ap (λ z. z +ℤ pos c.iterations.k) plain in
-    one_on c.args.entry.now c.args.handoff.next _ c.iterations.k _ _ c.iterations.store (done c.iterate.new.store) c.requires.may.state.within
+    one_on c.args.entry.now c.args.handoff.next _ c.iterations.k _ _ c.iterations.store (done c.walk_turn.new.store) c.requires.may.state.within
     c.body_of-body.ensures c.turns-turns.ensures.turns index c.iterations.invariant
-    (c.in_ok-end.ensures ∙ ap (λ e. let r : End = record { store = c.iterate.new.store; end = e } in r) c.in-Done.is)
+    (c.in_ok-end.ensures ∙ ap (λ e. let r : End = record { store = c.walk_turn.new.store; end = e } in r) c.in-Done.is)
 
 pub returns-in_default-clause-done : goal.returns-in_default-clause-done
 returns-in_default-clause-done c =
@@ -34,9 +35,9 @@ returns-in_default-clause-done c =
     let to = to_z-of_z w64 c.index_on-in_default.result (search rules) ∙ c.index_on-in_default.ensures ∙ ap (λ z. z +ℤ pos (c.iterations.k + 1)) plain in
     let stopped = one_on e next _ c.iterations.k _ _ c.iterations.store _ c.requires.may.state.within
     c.body_of-body.ensures c.turns-turns.ensures.turns index c.iterations.invariant c.in_ok-end.ensures in
-    done_end e c.args._config next _ c.args.limit c.iterations.k c.iterations.store c.iterate.new.store c.in_ok-end.end c.cut_of.result c.ended.result.1
+    done_end e c.args._config next _ c.args.limit c.iterations.k c.iterations.store c.walk_turn.new.store c.in_ok-end.end c.of-cut.result c.ended.result.1
     c.requires.may.served c.requires.may.state.within to c.iterations-test.true c.requires.may.room c.in_default.not-Done
-    c.iterations.invariant stopped c.cut_of.ensures c.ended.ensures.ran
+    c.iterations.invariant stopped c.of-cut.ensures c.ended.ensures.ran
 
 pub returns-in_default-clause-hands_on : goal.returns-in_default-clause-hands_on
 returns-in_default-clause-hands_on c =
@@ -47,7 +48,7 @@ returns-in_default-clause-hands_on c =
     let to = to_z-of_z w64 c.index_on-in_default.result (search rules) ∙ c.index_on-in_default.ensures ∙ ap (λ z. z +ℤ pos (c.iterations.k + 1)) plain in
     let stopped = one_on e next _ c.iterations.k _ _ c.iterations.store _ c.requires.may.state.within
     c.body_of-body.ensures c.turns-turns.ensures.turns index c.iterations.invariant c.in_ok-end.ensures in
-    handed_on e next _ (c.iterations.k + 1) c.iterate.new.store c.in_ok-end.end c.cut_of.result c.ended.result.0 c.ended.result.1
+    handed_on e next _ (c.iterations.k + 1) c.walk_turn.new.store c.in_ok-end.end c.of-cut.result c.ended.result.0 c.ended.result.1
     c.requires.may.state.within to stopped c.ended.ensures.handoff c.ended.ensures.ran
 
 pub returns-clause-done : goal.returns-clause-done
@@ -69,3 +70,8 @@ returns-clause-hands_on c =
     let reached = all_on e next c.iterations.k c.args.limit _ c.iterations.auto.k-end c.iterations-test.false c.iterations.invariant in
     handed_on e next _ c.args.limit c.iterations.store _ _ c.ended-2.result.0 c.ended-2.result.1
     c.requires.may.state.within to reached c.ended-2.ensures.handoff c.ended-2.ensures.ran
+
+pub returns-in_default-clause-meets : goal.returns-in_default-clause-meets
+returns-in_default-clause-meets c =
+    not_paused c.in_ok-end.end (c.iterations.k + 1) c.args.limit c.ended.result.1.cut c.in_default.not-Done
+    (ap (λ (d : Ran). d.cut) c.ended.ensures.ran ∙ c.of-cut.ensures)

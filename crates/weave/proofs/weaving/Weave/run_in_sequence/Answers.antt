@@ -21,11 +21,13 @@ run_out c =
     }
 
 pub returns-clause-done : goal.returns-clause-done
-returns-clause-done c = λ config seq. interval_done c.args.entry.now config c.args.handoff c.args.limit c.args.self.now.left (net_of c.run_out.new.self) c.finish.result.1 c.requires.entered c.requires.state c.requires.room (run_out c) c.finish.ensures.ran seq
+returns-clause-done c =
+    interval_done c.args.entry.now c.args.config c.args.handoff c.args.limit c.args.self.now.left (net_of c.run_out.new.self) c.finish.result.1 c.requires.entered c.requires.state c.requires.room (run_out c) c.finish.ensures.ran c.requires.seq
 
 pub returns-clause-hands_on : goal.returns-clause-hands_on
 returns-clause-hands_on c =
     interval_hands_on c.args.entry.now c.args.handoff c.finish.result.0 c.args.limit c.args.self.now.left (net_of c.run_out.new.self) c.finish.result.1 c.requires.entered c.requires.state (run_out c) c.finish.ensures.ran c.finish.ensures.next c.finish.ensures.store
 
 pub returns-clause-replayed : goal.returns-clause-replayed
-returns-clause-replayed c = interval_replayed c.args.entry.now c.args.handoff c.args.limit c.args.self.now.left (net_of c.run_out.new.self) c.finish.result.1 c.requires.state (run_out c) c.finish.ensures.ran
+returns-clause-replayed c =
+    interval_replayed c.args.self.now.capacity c.args.config c.args.entry.now c.args.handoff c.args.limit c.args.self.now.left (net_of c.run_out.new.self) c.finish.result.1 c.requires.seq c.requires.state (run_out c) c.finish.ensures.ran

@@ -32,7 +32,7 @@ returns-in-Some-clause-asked c = λ log hand h.
     let w : WeaveView = record { script = i.script.commands.items; left = drop i.at i.script.commands.items; current = i.current; capacity = i.capacity } in
     let here : IsUseAt i.script.commands.items i.at c.in-Some.ask = subst (λ (cs : List Command). IsUseAt cs i.at c.in-Some.ask) c.deref.ensures.value c.in-Some.ensures in
     let stood : StandsFor w log = subst (λ (v : WeaveView). StandsFor v log) (sym c.self.view_is) h in
-    use_taken w log c.args._entry.now i.current rest c.in-Some.ask hand stood here.1
+    use_taken w log c.args._entry.now rest c.in-Some.ask hand stood here.1
 
 pub returns-in-None-clause-names : goal.returns-in-None-clause-names
 returns-in-None-clause-names c =

@@ -1,9 +1,6 @@
 use Rattle.weave.proofs.Asks.{goes_on}
 use Rattle.weave.proofs.weaving.WeaveRunner.interval.Goals as goal
 
-pub returns-clause-done : goal.returns-clause-done
-returns-clause-done c = c.in_ok-done.ensures.done c.args._config c.requires.may.served
-
 pub returns-clause-goes_on : goal.returns-clause-goes_on
 returns-clause-goes_on c =
-    goes_on c.args.self.now c.run_in_sequence.new.self c.args.entry.now c.args._config c.args.handoff.next c.args.limit c.in_ok-done.done.1 c.requires.may.served c.in_ok-done.ensures.replayed c.in_ok-done.ensures.left
+    goes_on c.args.self.now c.run_in_sequence.new.self c.args.entry.now c.args.config c.args.handoff.next c.args.limit c.in_ok-done.done.1 c.in_ok-done.ensures.replayed c.in_ok-done.ensures.left
