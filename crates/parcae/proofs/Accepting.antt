@@ -6,7 +6,7 @@ use Rattle.nona_lex.specs.declared.tokens.Cut.{Cut}
 use Rattle.nona_lex.specs.declared.tokens.Spot.{Spot}
 use Rattle.nona_lex.specs.declared.tokens.Fault.{Fault}
 use Rattle.nona_lex.specs.Bounds.{tokens_of}
-use Rattle.nona_grammar.specs.Faults.{IsFront, StopsAt, FirstFault, IsText}
+use Rattle.nona_grammar.specs.Faults.{StopsAt, FirstFault, IsText}
 use Rattle.nona_tree.specs.declared.faults.ProgramFault.{ProgramFault}
 use Rattle.nona_tree.specs.declared.trees.Program.{Program}
 use Rattle.nona_tree.specs.Faults.{faults_of}

@@ -4,3 +4,6 @@ pub mod Answering
 pub mod Completing
 pub mod Loading
 pub mod Replaying
+pub mod Telling
+pub mod Clauses
+pub mod Fronting

@@ -5,6 +5,7 @@ use Rattle.std.specs.Io.KnownBytes.{Appends}
 use Rattle.fate_io.specs.Causes.{Rose}
 use Rattle.fate_io.specs.Sending.{Sent}
 use Rattle.nona_tree.specs.declared.trees.Program.{Program}
+use Rattle.nona_tree.specs.Run.{meaning_of}
 use Rattle.nona_store.specs.Input.{numbers_of}
 use Rattle.weave.specs.declared.script.Command.{Command as Order}
 use Rattle.morta_script.specs.Lines.{commands_of}
@@ -15,19 +16,16 @@ use Rattle.parcae.specs.Words.{Task, Command, seq, replay}
 use Rattle.parcae.specs.Told.{Told}
 use Rattle.parcae.specs.Accepted.{IsAccepted}
 use Rattle.parcae.specs.Ends.{Way, Whole, Ends}
-use Rattle.parcae.specs.Files.{Held, limit_of}
-use Rattle.parcae.specs.Due.{DueOfCommand, DueOfRun, DueOfScript}
-
--- what a shelf shows of a call: what it holds, and the names of failed reads before and after
-pub record Looked : Type 0 where
-  pub held : List ℕ → Held
-  pub failed_before : List (List ℕ)
-  pub failed : List (List ℕ)
+use Rattle.fate_io.specs.Reading.{Looked}
+use Rattle.fate_io.specs.Outside.{outside_of}
+use Rattle.parcae.specs.Files.{limit_of}
+use Rattle.parcae.specs.Due.{DueOfCommand, DueOfSeq, DueOfReplay}
 
 -- a command's call ends as is due of it, with the names that it adds to those of failed reads
 abbrev pub Answers : Option Command → Looked → Sent → Told → Type 0
 Answers command looked sent told =
-    (added : List (List ℕ)) × (looked.failed ≡ looked.failed_before ++ added) × Ends (DueOfCommand looked.held command added) sent told
+    (added : List (List ℕ)) × (looked.failed ≡ looked.failed_before ++ added)
+    × Ends (DueOfCommand (outside_of looked) command added) sent told
 
 -- a file is held within its limit, with this content
 abbrev pub Holds : Looked → Source → List ℕ → List ℕ → Type 0
@@ -63,7 +61,7 @@ abbrev pub IsComplete : Option Command → Looked → Sent → Told → Type 0
 IsComplete None looked sent told = Unit {0}
 IsComplete (Some (seq task)) looked sent told =
     (tree : Program) (numbers : List ℤ) → HoldsProgram looked task.file tree → HoldsInput looked task.input numbers
-    → IsCalm looked sent told → EndsWhole (DueOfRun task tree numbers []) sent told
+    → IsCalm looked sent told → EndsWhole (DueOfSeq tree (meaning_of tree numbers task.turns) task.memory) sent told
 IsComplete (Some (replay task script log)) looked sent told =
     (tree : Program) (numbers : List ℤ) (commands : List Order) → HoldsProgram looked task.file tree → HoldsInput looked task.input numbers
-    → HoldsScript looked script commands → IsCalm looked sent told → EndsWhole (DueOfScript task log tree numbers commands []) sent told
+    → HoldsScript looked script commands → IsCalm looked sent told → EndsWhole (DueOfReplay tree numbers commands task.turns task.memory log) sent told

@@ -5,77 +5,81 @@ use Rattle.nona_tree.specs.declared.trees.Program.{Program}
 use Rattle.nona_tree.specs.Memory.{Memory, Extends}
 use Rattle.nona_tree.specs.Run.{Ran, start_of, meaning_of}
 use Rattle.morta_task.specs.Entries.{EntryView, entries_of}
-use Rattle.morta_task.specs.InSequence.{image_in_sequence}
+use Rattle.morta_task.specs.ImageView.{ImageView}
+use Rattle.morta_task.specs.InSequence.{image_in_sequence, places_in}
 use Rattle.morta_task.specs.LogView.{LogView, empty_log}
-use Rattle.morta_task.specs.Legal.{IsLegalLog, EndsAll, last_in}
+use Rattle.morta_task.specs.Legal.{EndsAll, last_in}
 use Rattle.weave.specs.declared.script.Command.{Command as Order}
-use Rattle.weave.specs.Replay.{script_asks, IsReplayOf}
-use Rattle.morta_exec.specs.Lines.{number_lines}
-use Rattle.morta_exec.specs.Course.{most, IsBehind, StartsNext}
-use Rattle.morta_text.specs.Texts.{outcome_text, memory_text, log_text}
+use Rattle.weave.specs.Replay.{IsScriptReplay}
+use Rattle.parcae.specs.declared.replays.TheConstants.{CAPACITY}
+use Rattle.morta_text.specs.Texts.{number_lines, outcome_text, memory_text, log_text}
+use Rattle.morta_exec.specs.Places.{most, IsBehind, StartsNext}
 use Rattle.parcae.specs.declared.refusal.Refusal.TheVariants.{Usage}
+use Rattle.parcae.specs.declared.refusal.Source.TheVariants as source
 use Rattle.parcae.specs.declared.status.Status.TheVariants as status
 use Rattle.parcae.specs.Words.{Task, Command, seq, replay}
+use Rattle.fate_io.specs.Outside.{Outside}
 use Rattle.parcae.specs.Texts.{full_line}
 use Rattle.parcae.specs.Told.{logged, finished}
-use Rattle.parcae.specs.Ends.{Way, Whole, Early}
-use Rattle.parcae.specs.Files.{Held, DueOf, GivesProgram, NoProgram, GivesInput, NoInput, GivesScript, NoScript, refusing}
+use Rattle.parcae.specs.Ends.{Way, Whole, Early, Unbegun}
+use Rattle.parcae.specs.Files.{DueOf, IsBad, GivesProgram, GivesInput, NoInput, GivesScript, refusing}
 
 -- a text, where it is asked for
 abbrev pub where_asked : Bool → List ℕ → List ℕ
 where_asked asked text = if asked then text else []
 
--- what a run writes behind its printed numbers: its outcome, and its memory and its log where they are asked for
+-- what a run writes behind its printed numbers: its outcome, its memory where that is asked for, and the text of its log
 abbrev pub behind_numbers : Program → Ran → Bool → List ℕ → List ℕ
 behind_numbers tree ran memory log = outcome_text ran.end ++ (where_asked memory (memory_text tree ran.store) ++ log)
 
 -- what is due of a run in one thread: its sequential meaning
 pub data DueOfSeq (tree : Program) (ran : Ran) (memory : Bool) : Way → Type 0 where
-  ran_seq : DueOfSeq tree ran memory (Whole (finished ran empty_log) (number_lines ran.store.printed) (behind_numbers tree ran memory []))
+  seq_ran : DueOfSeq tree ran memory (Whole (finished ran empty_log) (number_lines ran.store.printed) (behind_numbers tree ran memory []))
   seq_broken : DueOfSeq tree ran memory (Early empty_log (number_lines ran.store.printed))
+  seq_unbegun : DueOfSeq tree ran memory (Unbegun empty_log)
 
--- the entries of a program's run
-abbrev pub entries_in : Program → List ℤ → ℕ → List EntryView
-entries_in tree numbers turns = entries_of (image_in_sequence tree) turns (start_of tree numbers)
-
--- the first intervals of a replay: they are legal, each request is the script's, and each did what the script says
-pub record IsReplayed (commands : List Order) (es : List EntryView) (log : LogView) : Type 0 where
-  pub legal : IsLegalLog (λ e so_far ask. ask ≡ script_asks commands so_far) es log
-  pub replayed : IsReplayOf commands log
-
--- What is due of a replay: the sequential meaning and the whole log, which isn't more than full; or, where the log is full
--- and one more interval would start, the numbers printed up to there; or, where something fails before, a front of the
--- numbers printed at a place behind the log's intervals, which the sequential meaning prints too.
-pub data DueOfReplay (tree : Program) (es : List EntryView) (ran : Ran) (commands : List Order) (memory log : Bool) : Way → Type 0 where
-  ran_replay : (l : LogView) → IsReplayed commands es l → EndsAll es (last_in l.intervals) → length l.intervals ≤ most
-      → DueOfReplay tree es ran commands memory log
+-- What is due of a run in intervals with these entries, whose log stands: the sequential meaning and the whole log, which
+-- isn't more than full; or, where the log is full and one more interval would start, the numbers printed up to there; or,
+-- where something fails before, a front of the numbers printed at a place behind the log's intervals, which the sequential
+-- meaning prints too.
+pub data DueOfDrive (tree : Program) (es : List EntryView) (ran : Ran) (stands : LogView → Type 0) (memory log : Bool) : Way → Type 0 where
+  drive_ran : (l : LogView) → stands l → EndsAll es (last_in l.intervals) → length l.intervals ≤ most
+      → DueOfDrive tree es ran stands memory log
       (Whole (finished ran l) (number_lines ran.store.printed) (behind_numbers tree ran memory (where_asked log (log_text l))))
-  log_full : (l : LogView) (m : Memory) → IsReplayed commands es l → length l.intervals ≡ most → StartsNext es l.intervals m
+  drive_full : (l : LogView) (m : Memory) → stands l → length l.intervals ≡ most → StartsNext es l.intervals m
       → Extends m.printed ran.store.printed
-      → DueOfReplay tree es ran commands memory log (Whole (logged status.LogFull l) (number_lines m.printed) full_line)
-  replay_broken : (l : LogView) (m : Memory) → IsReplayed commands es l → IsBehind es ran.store l.intervals m
-      → Extends m.printed ran.store.printed → DueOfReplay tree es ran commands memory log (Early l (number_lines m.printed))
+      → DueOfDrive tree es ran stands memory log (Whole (logged status.LogFull l) (number_lines m.printed) full_line)
+  drive_broken : (l : LogView) (m : Memory) → stands l → length l.intervals ≤ most → IsBehind es ran.store l.intervals m
+      → Extends m.printed ran.store.printed → DueOfDrive tree es ran stands memory log (Early l (number_lines m.printed))
+  drive_unbegun : DueOfDrive tree es ran stands memory log (Unbegun empty_log)
+
+-- a program as a replay runs it: its regions are all loops that may run in other versions, and none has another yet
+abbrev pub replay_image : Program → ImageView
+replay_image tree = image_in_sequence tree (places_in tree)
+
+-- the entries of the run of an image of a program over an input
+abbrev pub entries_in : ImageView → Program → List ℤ → ℕ → List EntryView
+entries_in image tree numbers turns = entries_of image turns (start_of tree numbers)
+
+-- what is due of the replay of a script over a program and an input: the log stands where it is that of the replay
+abbrev pub DueOfReplay : Program → List ℤ → List Order → ℕ → Bool → Bool → Way → Type 0
+DueOfReplay tree numbers commands turns =
+    DueOfDrive tree (entries_in (replay_image tree) tree numbers turns) (meaning_of tree numbers turns)
+    (IsScriptReplay CAPACITY commands (entries_in (replay_image tree) tree numbers turns))
 
 -- all files were read, and none of the reads failed
 abbrev pub AllRead : (Way → Type 0) → List (List ℕ) → Way → Type 0
 AllRead due added way = (added ≡ []) × due way
 
--- what is due of a run of this program over this input
-abbrev pub DueOfRun : Task → Program → List ℤ → List (List ℕ) → Way → Type 0
-DueOfRun task tree numbers = AllRead (DueOfSeq tree (meaning_of tree numbers task.turns) task.memory)
-
--- what is due of the replay of these commands over this program and this input
-abbrev pub DueOfScript : Task → Bool → Program → List ℤ → List Order → List (List ℕ) → Way → Type 0
-DueOfScript task log tree numbers commands =
-    AllRead (DueOfReplay tree (entries_in tree numbers task.turns) (meaning_of tree numbers task.turns) commands task.memory log)
-
 -- what is due of a command: the program comes first, then the input, then the script
-abbrev pub DueOfCommand : (List ℕ → Held) → Option Command → List (List ℕ) → Way → Type 0
-DueOfCommand held None added way = (added ≡ []) × (way ≡ refusing Usage)
-DueOfCommand held (Some (seq task)) added way =
-    DueOf (NoProgram held task.file) (GivesProgram held task.file) (λ tree.
-    DueOf (NoInput held task.input) (GivesInput held task.input) (λ numbers. DueOfRun task tree numbers)) added way
-DueOfCommand held (Some (replay task script log)) added way =
-    DueOf (NoProgram held task.file) (GivesProgram held task.file) (λ tree.
-    DueOf (NoInput held task.input) (GivesInput held task.input) (λ numbers.
-    DueOf (NoScript held script) (GivesScript held script) (λ commands. DueOfScript task log tree numbers commands))) added way
+abbrev pub DueOfCommand : Outside → Option Command → List (List ℕ) → Way → Type 0
+DueOfCommand outside None added way = (added ≡ []) × (way ≡ refusing Usage)
+DueOfCommand outside (Some (seq task)) added way =
+    DueOf (IsBad source.Program outside task.file) (GivesProgram outside task.file) (λ tree.
+    DueOf (NoInput outside task.input) (GivesInput outside task.input) (λ numbers.
+    AllRead (DueOfSeq tree (meaning_of tree numbers task.turns) task.memory))) added way
+DueOfCommand outside (Some (replay task script log)) added way =
+    DueOf (IsBad source.Program outside task.file) (GivesProgram outside task.file) (λ tree.
+    DueOf (NoInput outside task.input) (GivesInput outside task.input) (λ numbers.
+    DueOf (IsBad source.Script outside script) (GivesScript outside script) (λ commands.
+    AllRead (DueOfReplay tree numbers commands task.turns task.memory log)))) added way

@@ -1,5 +1,6 @@
 pub mod Words
 pub mod Meant
+pub mod Codes
 pub mod Told
 pub mod Texts
 pub mod Accepted
@@ -8,3 +9,4 @@ pub mod Ends
 pub mod Files
 pub mod Due
 pub mod Answers
+pub mod Statuses

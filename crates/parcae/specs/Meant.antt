@@ -4,7 +4,8 @@ use Rattle.std.specs.Option.{option_copied}
 use Rattle.parcae.specs.declared.words.Run.{Run}
 use Rattle.parcae.specs.declared.words.Command.{Command as Read}
 use Rattle.parcae.specs.declared.words.Command.TheVariants.{Seq, Replay}
-use Rattle.parcae.specs.Words.{Task, Command, seq, replay, turn_limit}
+use Rattle.parcae.specs.declared.words.TheConstants.{TURN_LIMIT}
+use Rattle.parcae.specs.Words.{Task, Command, seq, replay}
 
 -- what a run takes
 abbrev pub task_of : Run → Task
@@ -17,5 +18,5 @@ command_of (Replay r script log) = replay (task_of r) script.now log
 
 -- the turns of a loop are from 1 to 10^12
 abbrev pub HasTurns : Read → Type 0
-HasTurns (Seq r) = (1 ≤ r.turns) × (r.turns ≤ turn_limit)
-HasTurns (Replay r script log) = (1 ≤ r.turns) × (r.turns ≤ turn_limit)
+HasTurns (Seq r) = (1 ≤ r.turns) × (r.turns ≤ TURN_LIMIT)
+HasTurns (Replay r script log) = (1 ≤ r.turns) × (r.turns ≤ TURN_LIMIT)

@@ -6,15 +6,17 @@ use Rattle.nona_parse.specs.declared.fault.ParseFault.TheVariants as parse
 use Rattle.parcae.specs.declared.refusal.Kind.TheVariants as kind
 use Rattle.parcae.specs.declared.refusal.Refusal.{Refusal}
 use Rattle.parcae.specs.declared.refusal.Refusal.TheVariants as refusal
+use Rattle.parcae.specs.declared.refusal.Stop.{Stop}
+use Rattle.parcae.specs.declared.refusal.Stop.TheVariants as stop
 
--- the refusal of a text that was not read
-abbrev pub unread : ParseFault → Refusal
-unread (parse.Byte at) = refusal.Text kind.Byte at
-unread (parse.Number at) = refusal.Text kind.Number at
-unread (parse.NameLong at) = refusal.Text kind.NameLong at
-unread (parse.Syntax at) = refusal.Text kind.Syntax at
-unread (parse.Deep at) = refusal.Text kind.Deep at
-unread parse.NoMemory = refusal.NoMemory
+-- why a text was not read
+abbrev pub unread : ParseFault → Stop
+unread (parse.Byte at) = stop.Refused (refusal.Text kind.Byte at)
+unread (parse.Number at) = stop.Refused (refusal.Text kind.Number at)
+unread (parse.NameLong at) = stop.Refused (refusal.Text kind.NameLong at)
+unread (parse.Syntax at) = stop.Refused (refusal.Text kind.Syntax at)
+unread (parse.Deep at) = stop.Refused (refusal.Text kind.Deep at)
+unread parse.NoMemory = stop.NoMemory
 
 -- the refusal of a program with a fault
 abbrev pub faulty : ProgramFault → Refusal

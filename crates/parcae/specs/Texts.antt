@@ -31,7 +31,7 @@ kind_word kind.InputWritten = codes "input"
 kind_word kind.Cells = codes "cells"
 kind_word kind.Units = codes "units"
 
--- the line of a refusal; memory that ran out has none
+-- the line of a refusal
 abbrev pub refusal_line : Refusal → List ℕ
 refusal_line refusal.Usage = codes "usage\n"
 refusal_line (refusal.Failed source) = codes "read failed " ++ (source_word source ++ 10 ∷ [])
@@ -40,7 +40,6 @@ refusal_line (refusal.Text kind at) = codes "refused " ++ (kind_word kind ++ (co
 refusal_line (refusal.Token at) = codes "refused input at " ++ (decimal at ++ 10 ∷ [])
 refusal_line refusal.Count = codes "refused input count\n"
 refusal_line (refusal.Line n) = codes "refused script line " ++ (decimal n ++ 10 ∷ [])
-refusal_line refusal.NoMemory = []
 
 -- the status of a refusal
 abbrev pub refusal_status : Refusal → Status
@@ -51,7 +50,6 @@ refusal_status (refusal.Text kind at) = status.Refused
 refusal_status (refusal.Token at) = status.Input
 refusal_status refusal.Count = status.Input
 refusal_status (refusal.Line n) = status.Script
-refusal_status refusal.NoMemory = status.NoMemory
 
 -- no interval more goes into the log
 abbrev pub full_line : List ℕ

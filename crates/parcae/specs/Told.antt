@@ -9,6 +9,7 @@ use Rattle.nona_tree.specs.declared.outcomes.Outcome.TheVariants as outcome
 use Rattle.nona_tree.specs.Memory.{Memory}
 use Rattle.nona_tree.specs.Run.{Ran}
 use Rattle.morta_task.specs.LogView.{LogView, empty_log}
+use Rattle.nona_store.specs.declared.ended.Ended.{Ended}
 use Rattle.parcae.specs.declared.status.Status.{Status}
 use Rattle.parcae.specs.declared.status.Status.TheVariants as status
 use Rattle.parcae.specs.declared.report.Report.{Report}
@@ -24,13 +25,17 @@ pub record Told : Type 0 where
 abbrev pub told_of : Report → Told
 told_of r = record { status = r.status; outcome = r.outcome; store = r.store; log = r.log }
 
--- nothing but a status
-abbrev pub bare : Status → Told
-bare s = record { status = s; outcome = None; store = None; log = empty_log }
+-- a run that ended, as the meaning of programs has it
+abbrev pub ran_of : Ended → Ran
+ran_of run = record { store = run.store; end = run.outcome }
 
 -- nothing but a status and a log
 abbrev pub logged : Status → LogView → Told
 logged s log = record { status = s; outcome = None; store = None; log = log }
+
+-- nothing but a status
+abbrev pub bare : Status → Told
+bare s = logged s empty_log
 
 -- the status of a run that ended so
 abbrev pub status_of : Outcome → Status
@@ -42,23 +47,23 @@ status_of (outcome.OutOfTurns at) = status.OutOfTurns
 abbrev pub finished : Ran → LogView → Told
 finished ran log = record { status = status_of ran.end; outcome = Some ran.end; store = Some ran.store; log = log }
 
+-- the status of a call that a fault broke off
+abbrev pub broken_status : SendFault → Status
+broken_status fault.WriteFailed = status.WriteFailed
+broken_status fault.NoMemory = status.NoMemory
+
+-- a report, once what stands behind the printed numbers was sent with this result: a fault changes its status alone
+abbrev pub once_sent : {T : Type 0} → Result T SendFault → Told → Told
+once_sent (Ok x) report = report
+once_sent (Err f) report = record report { status = broken_status f }
+
 -- neither outcome nor store
 pub record IsBare (told : Told) : Type 0 where
   pub outcome : told.outcome ≡ None
   pub store : told.store ≡ None
 
 -- the outcome, the store and the log of another report
-pub record Keeps (whole told : Told) : Type 0 where
-  pub outcome : told.outcome ≡ whole.outcome
-  pub store : told.store ≡ whole.store
-  pub log : told.log ≡ whole.log
-
--- the status of a call that a fault broke off
-abbrev pub broken_status : SendFault → Status
-broken_status fault.WriteFailed = status.WriteFailed
-broken_status fault.NoMemory = status.NoMemory
-
--- a run that ended, once what stands behind its numbers was sent with this result
-abbrev pub ended_told : {T : Type 0} → Result T SendFault → Ran → LogView → Told
-ended_told (Ok x) ran log = finished ran log
-ended_told (Err f) ran log = record (finished ran log) { status = broken_status f }
+pub record Keeps (report told : Told) : Type 0 where
+  pub outcome : told.outcome ≡ report.outcome
+  pub store : told.store ≡ report.store
+  pub log : told.log ≡ report.log

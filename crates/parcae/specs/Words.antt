@@ -1,8 +1,9 @@
 -- Which command the words of a call are.
-use Rattle.std.specs.Prelude.{ℕ, ◌^◌, ◌==◌, Bool, true, false, not, if◌then◌else◌, List, [], ◌∷◌, None, Some, codes}
+use Rattle.std.specs.Prelude.{ℕ, ◌==◌, Bool, true, false, not, if◌then◌else◌, List, [], ◌∷◌, None, Some, codes}
 use Rattle.std.specs.declared.option.Option.{Option}
 use Rattle.std.specs.Str.{bytes_eq}
 use Rattle.nona_text.specs.Digits.{number_within}
+use Rattle.parcae.specs.declared.words.TheConstants.{DEFAULT_TURNS, TURN_LIMIT}
 
 -- what a run takes: the program's file, the input's where there is one, how many turns a loop may take whenever it is
 -- entered, and whether the memory is written
@@ -16,14 +17,6 @@ pub record Task : Type 0 where
 pub data Command : Type 0 where
   seq : (task : Task) → Command
   replay : (task : Task) → (script : List ℕ) → (log : Bool) → Command
-
--- the turns of a loop where the words don't say
-abbrev pub default_turns : ℕ
-default_turns = 10 ^ 9
-
--- the most turns of a loop
-abbrev pub turn_limit : ℕ
-turn_limit = 10 ^ 12
 
 -- whether a word may be a file's: it doesn't begin with a minus
 abbrev pub is_name : List ℕ → Bool
@@ -47,11 +40,11 @@ with_number (Some n) go = go n
 
 -- `--turns N`, where it stands there, and what the words behind it are
 abbrev pub with_turns : List (List ℕ) → (ℕ → List (List ℕ) → Option Command) → Option Command
-with_turns [] go = go default_turns []
-with_turns (w ∷ []) go = go default_turns (w ∷ [])
+with_turns [] go = go DEFAULT_TURNS []
+with_turns (w ∷ []) go = go DEFAULT_TURNS (w ∷ [])
 with_turns (w ∷ n ∷ ws) go =
-    if bytes_eq w (codes "--turns") then with_number (number_within 1 turn_limit n) (λ k. go k ws)
-    else go default_turns (w ∷ n ∷ ws)
+    if bytes_eq w (codes "--turns") then with_number (number_within 1 TURN_LIMIT n) (λ k. go k ws)
+    else go DEFAULT_TURNS (w ∷ n ∷ ws)
 
 -- a flag, where it stands there, and what the words behind it are
 abbrev pub with_flag : List ℕ → List (List ℕ) → (Bool → List (List ℕ) → Option Command) → Option Command

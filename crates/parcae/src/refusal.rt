@@ -1,9 +1,10 @@
 ghost use Rattle.std.specs.Prelude.{◌≡◌, ◌≤◌, IfOk, string_bytes};
+ghost use Rattle.fate_io.specs.Sending.{Sends, sent_since};
 ghost use Rattle.parcae.specs.Told.{told_of};
 ghost use Rattle.parcae.specs.Texts.{source_word, kind_word, refusal_line, refusal_status};
-ghost use Rattle.parcae.specs.Ends.{IsRefusedBy};
+ghost use Rattle.parcae.specs.Ends.{GivesUp};
 
-use crate::report::{Report, bare, broken_status};
+use crate::report::{Report, bare, once_sent};
 use crate::status::Status;
 use fate_io::{SendFault, Sink, send};
 use std::alloc::{AllocError, Global};
@@ -50,6 +51,13 @@ pub enum Refusal {
     Count,
     /// A line of the script is refused.
     Line { line: u32 },
+}
+
+/// Why the files of a call give nothing.
+#[derive(Clone, Copy, Debug, PartialEq, Eq)]
+pub enum Stop {
+    /// Something is refused.
+    Refused(Refusal),
     /// Memory ran out.
     NoMemory,
 }
@@ -85,7 +93,7 @@ fn kind_word(kind: Kind) -> &'static str
     }
 }
 
-/// The line of a refusal. Memory that ran out has none.
+/// The line of a refusal.
 fn line_of(alloc: Global, refusal: Refusal) -> Result<String, AllocError>
     ensures { IfOk result (λ text. string_bytes text ≡ refusal_line refusal) }
 {
@@ -106,7 +114,6 @@ fn line_of(alloc: Global, refusal: Refusal) -> Result<String, AllocError>
         Refusal::Token { at } => format!(in alloc; "refused input at {at}\n"),
         Refusal::Count => format!(in alloc; "refused input count\n"),
         Refusal::Line { line } => format!(in alloc; "refused script line {line}\n"),
-        Refusal::NoMemory => Ok(String::new(alloc)),
     }
 }
 
@@ -122,19 +129,29 @@ fn refusal_status(refusal: Refusal) -> Status
         Refusal::Token { .. } => Status::Input,
         Refusal::Count => Status::Input,
         Refusal::Line { .. } => Status::Script,
-        Refusal::NoMemory => Status::NoMemory,
     }
 }
 
-/// Writes the line of a refusal, and reports its status, or that of the fault that broke the line off.
-pub fn refuse<K: Sink>(alloc: Global, refusal: Refusal, out: &mut K) -> Report
-    ensures { IsRefusedBy refusal (record { before = K.written out.old; after = K.written out.new; faults_before = K.faults out.old; faults = K.faults out.new }) (told_of result) }
+/// Sends the line of a refusal.
+fn send_refusal<K: Sink>(alloc: Global, refusal: Refusal, out: &mut K) -> Result<(), SendFault>
+    ensures { Sends (sent_since K.written K.faults out.old out.new) (refusal_line refusal) result }
 {
     match line_of(alloc, refusal) {
-        Ok(text) => match send(out, text.as_bytes()) {
-            Ok(()) => bare(alloc, refusal_status(refusal)),
-            Err(fault) => bare(alloc, broken_status(fault)),
-        },
-        Err(_) => bare(alloc, broken_status(SendFault::NoMemory)),
+        Ok(text) => send(out, text.as_bytes()),
+        Err(_) => Err(SendFault::NoMemory),
+    }
+}
+
+/// Writes the line of a refusal and reports its status, or that of the fault that broke the line off. Where memory ran out
+/// before, it writes nothing, and reports that.
+pub fn give_up<K: Sink>(alloc: Global, stop: Stop, out: &mut K) -> Report
+    ensures { GivesUp stop (sent_since K.written K.faults out.old out.new) (told_of result) }
+{
+    match stop {
+        Stop::Refused(refusal) => {
+            let sent = send_refusal(alloc, refusal, out);
+            once_sent(sent, bare(alloc, refusal_status(refusal)))
+        }
+        Stop::NoMemory => bare(alloc, Status::NoMemory),
     }
 }

@@ -1,24 +1,33 @@
-ghost use Rattle.std.specs.Prelude.{◌≤◌, ◌^◌, length};
-ghost use Rattle.nona_tree.specs.Run.{meaning_of};
+ghost use Rattle.std.specs.Prelude.{◌≡◌, ◌≤◌, ◌^◌, length, All, IfOk};
+ghost use Rattle.fate_io.specs.Sending.{sent_since};
+ghost use Rattle.nona_tree.specs.Numbers.{IsI64};
 ghost use Rattle.nona_store.specs.Input.{number_bound};
 ghost use Rattle.weave.specs.Following.{AreCommands};
 ghost use Rattle.parcae.specs.Told.{told_of};
 ghost use Rattle.parcae.specs.Ends.{Ends};
-ghost use Rattle.parcae.specs.Due.{entries_in, DueOfReplay};
+ghost use Rattle.parcae.specs.Due.{replay_image, DueOfReplay};
 
-use crate::report::{Report, bare, broken_status, logged};
+use crate::report::{Report, bare, logged, once_sent};
 use crate::runs::{Asked, declared_stays, finish};
 use crate::status::Status;
 use fate_io::{Sink, send};
-use morta_exec::{DriveFault, drive};
-use morta_task::{Image, Log};
+use morta_exec::{Beginning, DriveFault, drive};
+use morta_task::{Image, Log, reshapable_places};
 use nona_store::Store;
-use nona_tree::{Checked, cells_are_bounded, checked_is_scoped};
-use std::alloc::Global;
+use nona_tree::{Checked, checked_is_scoped};
+use std::alloc::{AllocError, Global};
 use weave::{Script, Weave};
 
 /// How many messages a link holds.
 const CAPACITY: usize = 4;
+
+/// The image of a program whose regions are all loops that may run in other versions, each of which runs in one thread alone.
+fn replay_image(alloc: Global, program: &Checked) -> Result<Image, AllocError>
+    ensures { IfOk result (λ image. image ≡ replay_image program.now) }
+{
+    let places = reshapable_places(alloc, program)?;
+    Image::of(alloc, program, &places)
+}
 
 /// Replays a script over a program and an input, and writes its numbers, its outcome, and its memory and its log where they
 /// are asked for; or that the log is full, behind the numbers that were printed up to there.
@@ -27,43 +36,35 @@ pub fn replay_script<K: Sink>(
     program: &Checked,
     input: Vec<i64>,
     script: Script,
-    turns: u64,
     asked: Asked,
     out: &mut K,
 ) -> Report
     requires few { length input.items ≤ number_bound }
+    requires numbers { All IsI64 input.items }
     requires valid { AreCommands script.commands.items }
-    requires some_turns { 1 ≤ turns }
-    requires few_turns { turns ≤ 10 ^ 12 }
-    ensures { Ends (DueOfReplay program.now (entries_in program.now input.items turns) (meaning_of program.now input.items turns) script.commands.items asked.memory asked.log)
-        (record { before = K.written out.old; after = K.written out.new; faults_before = K.faults out.old; faults = K.faults out.new }) (told_of result) }
+    requires some_turns { 1 ≤ asked.turns }
+    requires few_turns { asked.turns ≤ 10 ^ 12 }
+    ensures { Ends (DueOfReplay program.now input.items script.commands.items asked.turns asked.memory asked.log)
+        (sent_since K.written K.faults out.old out.new) (told_of result) }
 {
     checked_is_scoped();
-    cells_are_bounded();
     declared_stays();
-    let Ok(image) = Image::of(alloc, program) else {
+    let Ok(image) = replay_image(alloc, program) else {
         return bare(alloc, Status::NoMemory);
     };
-    let Ok(store) = Store::start(alloc, program.program(), input) else {
+    let Ok(store) = Store::start(alloc, program, input) else {
         return bare(alloc, Status::NoMemory);
+    };
+    let from = Beginning {
+        store,
+        turns: asked.turns,
     };
     let mut weave = Weave::new(script, CAPACITY);
     let mut log = Log::new(alloc);
-    match drive(alloc, &image, store, turns, &mut weave, out, &mut log) {
-        Ok(run) => finish(
-            alloc,
-            asked,
-            program.program(),
-            run.outcome,
-            run.store,
-            log,
-            out,
-        ),
+    match drive(alloc, &image, from, &mut weave, out, &mut log) {
+        Ok(run) => finish(alloc, program.program(), run, log, asked, out),
         Err(DriveFault::WriteFailed) => logged(Status::WriteFailed, log),
         Err(DriveFault::NoMemory) => logged(Status::NoMemory, log),
-        Err(DriveFault::LogFull) => match send(out, b"log full\n") {
-            Ok(()) => logged(Status::LogFull, log),
-            Err(fault) => logged(broken_status(fault), log),
-        },
+        Err(DriveFault::LogFull) => once_sent(send(out, b"log full\n"), logged(Status::LogFull, log)),
     }
 }

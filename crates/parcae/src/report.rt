@@ -1,10 +1,10 @@
 ghost use Rattle.std.specs.Prelude.{◌≡◌};
-ghost use Rattle.parcae.specs.Told.{status_of, told_of, bare, logged, broken_status, ended_told};
+ghost use Rattle.parcae.specs.Told.{status_of, told_of, ran_of, bare, logged, finished, broken_status, once_sent};
 
 use crate::status::Status;
 use fate_io::SendFault;
 use morta_task::Log;
-use nona_store::Store;
+use nona_store::{Ended, Store};
 use nona_tree::Outcome;
 use std::alloc::Global;
 
@@ -24,12 +24,7 @@ pub struct Report {
 pub fn bare(alloc: Global, status: Status) -> Report
     ensures { told_of result ≡ bare status }
 {
-    Report {
-        status,
-        outcome: None,
-        store: None,
-        log: Log::new(alloc),
-    }
+    logged(status, Log::new(alloc))
 }
 
 /// A report of nothing but its status and a log.
@@ -55,6 +50,18 @@ fn status_of(outcome: Outcome) -> Status
     }
 }
 
+/// The report of a run that ended, with its log.
+pub fn finished(run: Ended, log: Log) -> Report
+    ensures { told_of result ≡ finished (ran_of run) log }
+{
+    Report {
+        status: status_of(run.outcome),
+        outcome: Some(run.outcome),
+        store: Some(run.store),
+        log,
+    }
+}
+
 /// The status of a call that a fault broke off.
 pub fn broken_status(fault: SendFault) -> Status
     ensures { result ≡ broken_status fault }
@@ -65,18 +72,17 @@ pub fn broken_status(fault: SendFault) -> Status
     }
 }
 
-/// The report of a run that ended so, once what stands behind its numbers was sent with this result.
-pub fn ended(sent: Result<(), SendFault>, outcome: Outcome, store: Store, log: Log) -> Report
-    ensures { told_of result ≡ ended_told sent (record { store = store; end = outcome }) log }
+/// A report, once what stands behind the printed numbers was sent with this result: a fault changes its status alone.
+pub fn once_sent(sent: Result<(), SendFault>, report: Report) -> Report
+    ensures { told_of result ≡ once_sent sent (told_of report) }
 {
-    let status = match sent {
-        Ok(()) => status_of(outcome),
-        Err(fault) => broken_status(fault),
-    };
-    Report {
-        status,
-        outcome: Some(outcome),
-        store: Some(store),
-        log,
+    match sent {
+        Ok(()) => report,
+        Err(fault) => Report {
+            status: broken_status(fault),
+            outcome: report.outcome,
+            store: report.store,
+            log: report.log,
+        },
     }
 }

@@ -1,11 +1,14 @@
 ghost use Rattle.std.specs.Prelude.{◌≡◌, ◌≤◌, map, string_bytes, Some};
 ghost use Rattle.parcae.specs.Told.{told_of};
-ghost use Rattle.parcae.specs.Words.{seq, replay, turn_limit, meant};
+ghost use Rattle.fate_io.specs.Sending.{sent_since};
+ghost use Rattle.parcae.specs.declared.words.TheConstants.{TURN_LIMIT};
+ghost use Rattle.parcae.specs.Words.{seq, replay, meant};
 ghost use Rattle.parcae.specs.Meant.{task_of};
+ghost use Rattle.fate_io.specs.Reading.{looked_since};
 ghost use Rattle.parcae.specs.Answers.{Answers, IsComplete};
 
 use crate::files::{input_in, program_in, script_in};
-use crate::refusal::{Refusal, refuse};
+use crate::refusal::{Refusal, Stop, give_up};
 use crate::replays::replay_script;
 use crate::report::Report;
 use crate::runs::{Asked, run_in_sequence};
@@ -18,15 +21,15 @@ use std::alloc::Global;
 fn seq<S: Shelf, K: Sink>(alloc: Global, run: Run<'_>, shelf: &mut S, out: &mut K) -> Report
     ensures same { S.held shelf.new ≡ S.held shelf.old }
     ensures answers { Answers (Some (seq (task_of run.entry)))
-        (record { held = S.held shelf.old; failed_before = S.failed shelf.old; failed = S.failed shelf.new })
-        (record { before = K.written out.old; after = K.written out.new; faults_before = K.faults out.old; faults = K.faults out.new }) (told_of result) }
+        (looked_since S.held S.failed shelf.old shelf.new)
+        (sent_since K.written K.faults out.old out.new) (told_of result) }
 {
     match program_in(alloc, run.file, shelf) {
         Ok(program) => match input_in(alloc, run.input, shelf) {
             Ok(input) => run_in_sequence(alloc, &program, input, run.turns, run.memory, out),
-            Err(refusal) => refuse(alloc, refusal, out),
+            Err(stop) => give_up(alloc, stop, out),
         },
-        Err(refusal) => refuse(alloc, refusal, out),
+        Err(stop) => give_up(alloc, stop, out),
     }
 }
 
@@ -40,40 +43,41 @@ fn replay<S: Shelf, K: Sink>(
     out: &mut K,
 ) -> Report
     requires some_turns { 1 ≤ run.turns }
-    requires few_turns { run.turns ≤ turn_limit }
+    requires few_turns { run.turns ≤ TURN_LIMIT }
     ensures same { S.held shelf.new ≡ S.held shelf.old }
     ensures answers { Answers (Some (replay (task_of run.entry) script.now log))
-        (record { held = S.held shelf.old; failed_before = S.failed shelf.old; failed = S.failed shelf.new })
-        (record { before = K.written out.old; after = K.written out.new; faults_before = K.faults out.old; faults = K.faults out.new }) (told_of result) }
+        (looked_since S.held S.failed shelf.old shelf.new)
+        (sent_since K.written K.faults out.old out.new) (told_of result) }
 {
     match program_in(alloc, run.file, shelf) {
         Ok(program) => match input_in(alloc, run.input, shelf) {
             Ok(input) => match script_in(alloc, script, shelf) {
                 Ok(script) => {
                     let asked = Asked {
+                        turns: run.turns,
                         memory: run.memory,
                         log,
                     };
-                    replay_script(alloc, &program, input, script, run.turns, asked, out)
+                    replay_script(alloc, &program, input, script, asked, out)
                 }
-                Err(refusal) => refuse(alloc, refusal, out),
+                Err(stop) => give_up(alloc, stop, out),
             },
-            Err(refusal) => refuse(alloc, refusal, out),
+            Err(stop) => give_up(alloc, stop, out),
         },
-        Err(refusal) => refuse(alloc, refusal, out),
+        Err(stop) => give_up(alloc, stop, out),
     }
 }
 
 fn still<S: Shelf, K: Sink>(alloc: Global, words: &[String], shelf: &mut S, out: &mut K) -> Report
     ensures same { S.held shelf.new ≡ S.held shelf.old }
     ensures answers { Answers (meant (map string_bytes words.now))
-        (record { held = S.held shelf.old; failed_before = S.failed shelf.old; failed = S.failed shelf.new })
-        (record { before = K.written out.old; after = K.written out.new; faults_before = K.faults out.old; faults = K.faults out.new }) (told_of result) }
+        (looked_since S.held S.failed shelf.old shelf.new)
+        (sent_since K.written K.faults out.old out.new) (told_of result) }
 {
     match command_of(words) {
         Some(Command::Seq(run)) => seq(alloc, run, shelf, out),
         Some(Command::Replay { run, script, log }) => replay(alloc, run, script, log, shelf, out),
-        None => refuse(alloc, Refusal::Usage, out),
+        None => give_up(alloc, Stop::Refused(Refusal::Usage), out),
     }
 }
 
@@ -104,12 +108,12 @@ pub fn parcae_still<S: Shelf, K: Sink>(
     ensures same { S.held shelf.new ≡ S.held shelf.old }
     // Each status has its cause, and what was written belongs to it.
     ensures answers { Answers (meant (map string_bytes words.now))
-        (record { held = S.held shelf.old; failed_before = S.failed shelf.old; failed = S.failed shelf.new })
-        (record { before = K.written out.old; after = K.written out.new; faults_before = K.faults out.old; faults = K.faults out.new }) (told_of result) }
+        (looked_since S.held S.failed shelf.old shelf.new)
+        (sent_since K.written K.faults out.old out.new) (told_of result) }
     // A command over held files ends with what is due of its run, whole, where nothing outside fails.
     ensures complete { IsComplete (meant (map string_bytes words.now))
-        (record { held = S.held shelf.old; failed_before = S.failed shelf.old; failed = S.failed shelf.new })
-        (record { before = K.written out.old; after = K.written out.new; faults_before = K.faults out.old; faults = K.faults out.new }) (told_of result) }
+        (looked_since S.held S.failed shelf.old shelf.new)
+        (sent_since K.written K.faults out.old out.new) (told_of result) }
 {
     reads_one_tree();
     still(alloc, words, shelf, out)

@@ -1,8 +1,9 @@
 ghost use Rattle.std.specs.Prelude.{◌≡◌, ◌≤◌, ◌∷◌, [], ℕ, Bool, List, map, string_bytes, MatchOption, IfSome, None, Some};
 ghost use Rattle.std.specs.Option.{option_copied};
 ghost use Rattle.std.specs.declared.option.Option.{Option};
-ghost use Rattle.parcae.specs.Words.{Command as Meaning, is_name, with_name, with_input, turn_limit, with_turns, with_flag, with_script, seq_words, replay_words, meant};
+ghost use Rattle.parcae.specs.Words.{Command as Meaning, is_name, with_name, with_input, with_turns, with_flag, with_script, seq_words, replay_words, meant};
 ghost use Rattle.parcae.specs.Meant.{command_of, HasTurns};
+ghost use Rattle.parcae.specs.declared.words.TheConstants.{TURN_LIMIT};
 
 use nona_text::number_within;
 
@@ -95,7 +96,7 @@ fn take_turns(words: &[String]) -> Option<(u64, &[String])>
     ensures taken { (go : ℕ → List (List ℕ) → Option Meaning) → MatchOption result
         (with_turns (map string_bytes words.now) go ≡ None)
         (λ x. with_turns (map string_bytes words.now) go ≡ go x.0 (map string_bytes x.1.now)) }
-    ensures within { IfSome result (λ x. (1 ≤ x.0) × (x.0 ≤ turn_limit)) }
+    ensures within { IfSome result (λ x. (1 ≤ x.0) × (x.0 ≤ TURN_LIMIT)) }
 {
     match words {
         [word, number, rest @ ..] => {

@@ -1,12 +1,11 @@
-use Rattle.std.proofs.Common.{ap, length, arith, refl, subst, sym, ◌≤◌, ◌+◌, List, ℕ, [], false}
-use Rattle.fate_io.specs.Sending.{Sent}
-use Rattle.nona_tree.specs.Run.{Ran, meaning_of}
+use Rattle.std.proofs.Common.{length, subst, ◌≤◌, ◌+◌, List, ℕ, []}
+use Rattle.fate_io.specs.Sending.{Sent, sent_since}
+use Rattle.nona_tree.specs.Run.{Ran}
 use Rattle.morta_task.specs.LogView.{empty_log}
-use Rattle.morta_exec.specs.Lines.{number_lines}
-use Rattle.parcae.specs.Told.{finished}
-use Rattle.parcae.specs.Ends.{Finishes}
-use Rattle.parcae.specs.Due.{DueOfSeq, ran_seq, seq_broken, behind_numbers}
-use Rattle.parcae.proofs.Ending.{ends_early, ends_finished}
+use Rattle.morta_text.specs.Texts.{number_lines}
+use Rattle.parcae.specs.Told.{told_of, finished}
+use Rattle.parcae.specs.Due.{DueOfSeq, seq_ran, seq_broken, seq_unbegun, behind_numbers}
+use Rattle.parcae.proofs.Ending.{ends_unbegun, ends_early, ends_behind}
 use Rattle.parcae.proofs.runs.run_in_sequence.Goals as goal
 
 pub finish-requires-clause-vars : goal.finish-requires-clause-vars
@@ -26,17 +25,17 @@ returns-in-Ok-put_numbers g c =
     let faults = g.K.Sink.faults in
     let ran : Ran = record { store = c.in-Ok.run'.store; end = c.in-Ok.run'.outcome } in
     rw c.in-Ok.ensures
-    (ends_finished (DueOfSeq c.args.program.now ran c.args.memory)
+    (ends_behind (DueOfSeq c.args.program.now ran c.args.memory)
     (written c.args.out.now) (written c.put_numbers.new.out) (written c.finish.new.out)
     (faults c.args.out.now) (faults c.put_numbers.new.out) (faults c.finish.new.out)
-    ran empty_log (number_lines ran.store.printed) (behind_numbers c.args.program.now ran c.args.memory []) _
-    ran_seq (rw (← c.printed.ensures) c.in-Ok-put_numbers.ensures.sent) c.in-Ok-put_numbers.ensures.later
-    (rw (← c.program.ensures.program, ← c.new.ensures) c.finish.ensures.finishes))
+    (finished ran empty_log) (told_of c.finish.result) (number_lines ran.store.printed) (behind_numbers c.args.program.now ran c.args.memory [])
+    seq_ran (rw (← c.printed.ensures) c.in-Ok-put_numbers.ensures.sent) c.in-Ok-put_numbers.ensures.later
+    (rw (← c.program.ensures.program, ← c.new.ensures) c.finish.ensures.sends))
 
 -- the numbers were broken off
 pub returns-in-Err-put_numbers : goal.returns-in-Err-put_numbers
 returns-in-Err-put_numbers g c =
-    let sent : Sent = record { before = g.K.Sink.written c.args.out.now; after = g.K.Sink.written c.put_numbers.new.out; faults_before = g.K.Sink.faults c.args.out.now; faults = g.K.Sink.faults c.put_numbers.new.out } in
+    let sent : Sent = sent_since g.K.Sink.written g.K.Sink.faults c.args.out.now c.put_numbers.new.out in
     let ran : Ran = record { store = c.in-Ok.run'.store; end = c.in-Ok.run'.outcome } in
     rw (c.in-Ok.ensures, c.bare.ensures, c.broken_status.ensures)
     (ends_early (DueOfSeq c.args.program.now ran c.args.memory) sent (number_lines ran.store.printed) c.in-Err-put_numbers.fault

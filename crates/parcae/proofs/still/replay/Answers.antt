@@ -1,19 +1,21 @@
 use Rattle.std.proofs.Common.{refl, subst, ◌∙◌, Some, List, ℕ}
+use Rattle.parcae.specs.declared.refusal.Source.TheVariants as source
 use Rattle.parcae.specs.Meant.{task_of}
 use Rattle.parcae.specs.Words.{replay}
-use Rattle.parcae.specs.Files.{Held, GivesInput, NoInput, NoProgram, GivesScript, NoScript, Stopped, stops, follows}
+use Rattle.fate_io.specs.Reading.{Held, looked_since}
+use Rattle.parcae.specs.Files.{seen, IsBad, GivesInput, NoInput, GivesScript, Stopped, stops, starves, follows}
 use Rattle.parcae.specs.Due.{DueOfCommand}
-use Rattle.parcae.proofs.Answering.{refused_answer, whole_answer}
+use Rattle.parcae.proofs.Answering.{stopped_answer, whole_answer}
 use Rattle.parcae.proofs.still.replay.Goals as goal
 
 -- the script was replayed
 pub returns-in-Ok-script_in-clause-answers : goal.returns-in-Ok-script_in-clause-answers
 returns-in-Ok-script_in-clause-answers g c =
     let task = task_of c.args.run in
-    let held = g.S.Shelf.held in
-    let numbers = subst (λ (h : List ℕ → Held). GivesInput h task.input c.in-Ok-input_in.input.items) c.in-Ok.ensures.same c.in-Ok-input_in.ensures.gives in
-    let commands = subst (λ (h : List ℕ → Held). GivesScript h c.args.script.now c.in-Ok-script_in.script.commands.items) (c.in-Ok-input_in.ensures.same ∙ c.in-Ok.ensures.same) c.in-Ok-script_in.ensures.gives in
-    whole_answer (DueOfCommand (held c.args.shelf.now) (Some (replay task c.args.script.now c.args.log))) _ _ _ _ _
+    let outside = seen g.S.Shelf.held c.args.shelf.now in
+    let numbers = subst (λ (h : List ℕ → Held). GivesInput (record { held = h }) task.input c.in-Ok-input_in.input.items) c.in-Ok.ensures.same c.in-Ok-input_in.ensures.gives in
+    let commands = subst (λ (h : List ℕ → Held). GivesScript (record { held = h }) c.args.script.now c.in-Ok-script_in.script.commands.items) (c.in-Ok-input_in.ensures.same ∙ c.in-Ok.ensures.same) c.in-Ok-script_in.ensures.gives in
+    whole_answer (DueOfCommand outside (Some (replay task c.args.script.now c.args.log))) _ _ _ _ _
     (c.in-Ok-script_in.ensures.read ∙ c.in-Ok-input_in.ensures.read ∙ c.in-Ok.ensures.read)
     (λ way d. follows c.in-Ok.program c.in-Ok.ensures.gives (follows c.in-Ok-input_in.input.items numbers (follows c.in-Ok-script_in.script.commands.items commands (refl, d)))) c.replay_script.ensures
 
@@ -21,25 +23,28 @@ returns-in-Ok-script_in-clause-answers g c =
 pub returns-in-Ok-input_in-clause-answers : goal.returns-in-Ok-input_in-clause-answers
 returns-in-Ok-input_in-clause-answers g c =
     let task = task_of c.args.run in
-    let held = g.S.Shelf.held in
-    let numbers = subst (λ (h : List ℕ → Held). GivesInput h task.input c.in-Ok-input_in.input.items) c.in-Ok.ensures.same c.in-Ok-input_in.ensures.gives in
-    let none = subst (λ (h : List ℕ → Held). Stopped (NoScript h c.args.script.now) (g.S.Shelf.failed c.input_in.new.shelf) (g.S.Shelf.failed c.script_in.new.shelf) c.in-Err-script_in.refusal) (c.in-Ok-input_in.ensures.same ∙ c.in-Ok.ensures.same) c.in-Err-script_in.ensures.none in
-    refused_answer (DueOfCommand (held c.args.shelf.now) (Some (replay task c.args.script.now c.args.log))) (NoScript (held c.args.shelf.now) c.args.script.now) _ _ _ c.in-Err-script_in.refusal _ _
+    let outside = seen g.S.Shelf.held c.args.shelf.now in
+    let looked = looked_since g.S.Shelf.held g.S.Shelf.failed c.input_in.new.shelf c.script_in.new.shelf in
+    let numbers = subst (λ (h : List ℕ → Held). GivesInput (record { held = h }) task.input c.in-Ok-input_in.input.items) c.in-Ok.ensures.same c.in-Ok-input_in.ensures.gives in
+    let none = subst (λ (h : List ℕ → Held). Stopped (IsBad source.Script (record { held = h }) c.args.script.now) looked c.in-Err-script_in.stop) (c.in-Ok-input_in.ensures.same ∙ c.in-Ok.ensures.same) c.in-Err-script_in.ensures.none in
+    stopped_answer (DueOfCommand outside (Some (replay task c.args.script.now c.args.log))) (IsBad source.Script outside c.args.script.now) _ looked c.in-Err-script_in.stop _ _
     (c.in-Ok-input_in.ensures.read ∙ c.in-Ok.ensures.read)
-    (λ added x h. follows c.in-Ok.program c.in-Ok.ensures.gives (follows c.in-Ok-input_in.input.items numbers (stops x h refl))) none c.refuse.ensures
+    (λ added x h. follows c.in-Ok.program c.in-Ok.ensures.gives (follows c.in-Ok-input_in.input.items numbers (stops x h refl))) (starves refl refl) none c.give_up.ensures
 
 -- the input gave no numbers
 pub returns-in-Ok-clause-answers : goal.returns-in-Ok-clause-answers
 returns-in-Ok-clause-answers g c =
     let task = task_of c.args.run in
-    let held = g.S.Shelf.held in
-    let none = subst (λ (h : List ℕ → Held). Stopped (NoInput h task.input) (g.S.Shelf.failed c.program_in.new.shelf) (g.S.Shelf.failed c.input_in.new.shelf) c.in-Err-input_in.refusal) c.in-Ok.ensures.same c.in-Err-input_in.ensures.none in
-    refused_answer (DueOfCommand (held c.args.shelf.now) (Some (replay task c.args.script.now c.args.log))) (NoInput (held c.args.shelf.now) task.input) _ _ _ c.in-Err-input_in.refusal _ _ c.in-Ok.ensures.read
-    (λ added x h. follows c.in-Ok.program c.in-Ok.ensures.gives (stops x h refl)) none c.refuse-in-Err-input_in.ensures
+    let outside = seen g.S.Shelf.held c.args.shelf.now in
+    let looked = looked_since g.S.Shelf.held g.S.Shelf.failed c.program_in.new.shelf c.input_in.new.shelf in
+    let none = subst (λ (h : List ℕ → Held). Stopped (NoInput (record { held = h }) task.input) looked c.in-Err-input_in.stop) c.in-Ok.ensures.same c.in-Err-input_in.ensures.none in
+    stopped_answer (DueOfCommand outside (Some (replay task c.args.script.now c.args.log))) (NoInput outside task.input) _ looked c.in-Err-input_in.stop _ _ c.in-Ok.ensures.read
+    (λ added x h. follows c.in-Ok.program c.in-Ok.ensures.gives (stops x h refl)) (starves refl refl) none c.give_up-in-Err-input_in.ensures
 
 -- the file gave no program
 pub returns-clause-answers : goal.returns-clause-answers
 returns-clause-answers g c =
     let task = task_of c.args.run in
-    refused_answer (DueOfCommand (g.S.Shelf.held c.args.shelf.now) (Some (replay task c.args.script.now c.args.log))) (NoProgram (g.S.Shelf.held c.args.shelf.now) task.file) _ _ _ c.in-Err.refusal _ _ refl
-    (λ added x h. stops x h refl) c.in-Err.ensures.none c.refuse-in-Err.ensures
+    let outside = seen g.S.Shelf.held c.args.shelf.now in
+    stopped_answer (DueOfCommand outside (Some (replay task c.args.script.now c.args.log))) (IsBad source.Program outside task.file) _ (looked_since g.S.Shelf.held g.S.Shelf.failed c.args.shelf.now c.program_in.new.shelf) c.in-Err.stop _ _ refl
+    (λ added x h. stops x h refl) (starves refl refl) c.in-Err.ensures.none c.give_up-in-Err.ensures

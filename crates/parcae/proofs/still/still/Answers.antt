@@ -1,6 +1,7 @@
 use Rattle.std.proofs.Common.{[], append-nil, sym, refl, None}
 use Rattle.parcae.specs.declared.refusal.Refusal.TheVariants.{Usage}
 use Rattle.parcae.specs.Due.{DueOfCommand}
+use Rattle.parcae.specs.Files.{seen}
 use Rattle.parcae.proofs.Ending.{ends_refused}
 use Rattle.parcae.proofs.still.still.Goals as goal
 
@@ -20,5 +21,5 @@ returns-in-None-clause-answers g c =
     rw c.in-None.ensures.meant (
       [],
       sym (append-nil (g.S.Shelf.failed c.args.shelf.now)),
-      ends_refused (DueOfCommand (g.S.Shelf.held c.args.shelf.now) None []) Usage _ _ (refl, refl) c.refuse.ensures,
+      ends_refused (DueOfCommand (seen g.S.Shelf.held c.args.shelf.now) None []) Usage _ _ (refl, refl) c.give_up.ensures,
     )

@@ -1,0 +1,179 @@
+-- What each exit status tells of a call.
+use Rattle.std.specs.Prelude.{◌≡◌, ◌⊎◌, ℕ, ◌<◌, ◌≤◌, Bool, ℤ, List, [], ◌∷◌, ◌++◌, length, None, Some, IsSome}
+use Rattle.std.specs.declared.option.Option.{Option}
+use Rattle.std.specs.Io.KnownBytes.{Appends}
+use Rattle.fate_io.specs.Causes.{Rose}
+use Rattle.fate_io.specs.Sending.{Sent}
+use Rattle.nona_tree.specs.declared.trees.Program.{Program}
+use Rattle.nona_tree.specs.Run.{Ran, meaning_of}
+use Rattle.morta_task.specs.LogView.{LogView, empty_log}
+use Rattle.morta_task.specs.Entries.{EntryView}
+use Rattle.morta_task.specs.Legal.{IsWholeLog}
+use Rattle.weave.specs.declared.script.Command.{Command as Order}
+use Rattle.weave.specs.Replay.{script_asks, IsReplayOf}
+use Rattle.parcae.specs.declared.replays.TheConstants.{CAPACITY}
+use Rattle.morta_text.specs.Texts.{number_lines, log_text}
+use Rattle.morta_exec.specs.Places.{most}
+use Rattle.parcae.specs.declared.refusal.Source.{Source}
+use Rattle.parcae.specs.declared.refusal.Source.TheVariants as source
+use Rattle.parcae.specs.declared.refusal.Refusal.{Refusal}
+use Rattle.parcae.specs.declared.refusal.Refusal.TheVariants as refusal
+use Rattle.parcae.specs.Words.{Task, Command, seq, replay}
+use Rattle.parcae.specs.Codes.{code_of}
+use Rattle.fate_io.specs.Reading.{Looked}
+use Rattle.parcae.specs.Texts.{refusal_line, refusal_status, full_line}
+use Rattle.parcae.specs.Told.{Told, bare, finished, IsBare}
+use Rattle.parcae.specs.Files.{limit_of, Refuses}
+use Rattle.parcae.specs.Due.{where_asked, behind_numbers, replay_image, entries_in}
+use Rattle.parcae.specs.Answers.{Answers, Holds, HoldsProgram, HoldsInput, HoldsScript}
+
+-- a statement is true of each call that answers
+abbrev pub OfEachCall : (Option Command → Looked → Sent → Told → Type 0) → Type 0
+OfEachCall P = (command : Option Command) (looked : Looked) (sent : Sent) (told : Told) → Answers command looked sent told → P command looked sent told
+
+-- a shelf tells of each name what it holds
+abbrev pub TellsFiles : Looked → Type 0
+TellsFiles looked = (name : List ℕ) → IsSome (looked.held name)
+
+-- the file that a command names as its program, its input or its script
+abbrev pub named : Option Command → Source → Option (List ℕ)
+named None source = None
+named (Some (seq task)) source.Program = Some task.file
+named (Some (seq task)) source.Input = task.input
+named (Some (seq task)) source.Script = None
+named (Some (replay task script log)) source.Program = Some task.file
+named (Some (replay task script log)) source.Input = task.input
+named (Some (replay task script log)) source.Script = Some script
+
+-- exactly the line of a refusal was written, and its status is all that is told
+abbrev pub Says : Refusal → Sent → Told → Type 0
+Says r sent told = (told ≡ bare (refusal_status r)) × Appends sent.before sent.after (refusal_line r)
+
+-- the sink or memory broke a call off
+abbrev pub IsBrokenOff : Told → Type 0
+IsBrokenOff told = (code_of told.status ≡ 15) ⊎ (code_of told.status ≡ 16)
+
+-- 10 comes exactly where the words are no command, unless that line was broken off
+pub record TellsUsage (command : Option Command) (looked : Looked) (sent : Sent) (told : Told) : Type 0 where
+  pub only : code_of told.status ≡ 10 → command ≡ None
+  pub always : command ≡ None → (code_of told.status ≡ 10) ⊎ IsBrokenOff told
+
+-- a file of a command is held within its limit, its text is refused by its first fault, and that was said
+pub record HasFault (source : Source) (command : Option Command) (looked : Looked) (sent : Sent) (told : Told) : Type 0 where
+  pub file : List ℕ
+  pub bytes : List ℕ
+  pub refusal : Refusal
+  pub names : named command source ≡ Some file
+  pub holds : Holds looked source file bytes
+  pub refuses : Refuses source bytes refusal
+  pub says : Says refusal sent told
+
+-- a code comes with the first fault of the text of this file
+abbrev pub TellsFault : ℕ → Source → Option Command → Looked → Sent → Told → Type 0
+TellsFault code source command looked sent told =
+    TellsFiles looked → code_of told.status ≡ code → HasFault source command looked sent told
+
+-- a file of a command couldn't be read: its name alone was added to those of failed reads, and that was said
+pub record HasFailedRead (command : Option Command) (looked : Looked) (sent : Sent) (told : Told) : Type 0 where
+  pub source : Source
+  pub file : List ℕ
+  pub names : named command source ≡ Some file
+  pub added : looked.failed ≡ looked.failed_before ++ file ∷ []
+  pub says : Says (refusal.Failed source) sent told
+
+-- 14 names the file that couldn't be read
+abbrev pub TellsFailedRead : Option Command → Looked → Sent → Told → Type 0
+TellsFailedRead command looked sent told = code_of told.status ≡ 14 → HasFailedRead command looked sent told
+
+-- 15 comes only where the sink's count of faults rose
+abbrev pub TellsFailedWrite : Option Command → Looked → Sent → Told → Type 0
+TellsFailedWrite command looked sent told = code_of told.status ≡ 15 → Rose sent.faults_before sent.faults
+
+-- a file of a command is held that is longer than its limit, and that was said
+pub record HasLongFile (command : Option Command) (looked : Looked) (sent : Sent) (told : Told) : Type 0 where
+  pub source : Source
+  pub file : List ℕ
+  pub bytes : List ℕ
+  pub names : named command source ≡ Some file
+  pub holds : looked.held file ≡ Some (Some bytes)
+  pub exceeds : limit_of source < length bytes
+  pub says : Says (refusal.Long source) sent told
+
+-- 17 comes only where a file is held that is too long
+abbrev pub TellsLongFile : Option Command → Looked → Sent → Told → Type 0
+TellsLongFile command looked sent told =
+    TellsFiles looked → code_of told.status ≡ 17 → HasLongFile command looked sent told
+
+-- the log is full, and exactly that was written, behind the lines of printed numbers
+pub record HasFullLog (sent : Sent) (told : Told) : Type 0 where
+  pub full : length told.log.intervals ≡ most
+  pub bare : IsBare told
+  pub printed : List ℤ
+  pub text : Appends sent.before sent.after (number_lines printed ++ full_line)
+
+-- 18 comes only with a full log
+abbrev pub TellsFullLog : Option Command → Looked → Sent → Told → Type 0
+TellsFullLog command looked sent told = code_of told.status ≡ 18 → HasFullLog sent told
+
+-- what a run writes: its printed numbers, its outcome, its memory where that is asked for, and the text of its log
+abbrev pub run_text : Program → Ran → Bool → List ℕ → List ℕ
+run_text tree ran memory log = number_lines ran.store.printed ++ behind_numbers tree ran memory log
+
+-- the log of a whole run with these entries is the replay of a script: it is legal, each request is the script's, and each
+-- interval did what the script says
+pub record IsWholeReplay (commands : List Order) (es : List EntryView) (log : LogView) : Type 0 where
+  pub whole : IsWholeLog (λ e so_far ask. ask ≡ script_asks CAPACITY commands so_far) es log
+  pub replayed : IsReplayOf CAPACITY commands log
+
+-- A run in one thread ended: its program and its input are held, the report is that of its sequential meaning, and exactly
+-- its text was written.
+pub record HasRunInSequence (task : Task) (looked : Looked) (sent : Sent) (told : Told) : Type 0 where
+  pub tree : Program
+  pub numbers : List ℤ
+  pub program : HoldsProgram looked task.file tree
+  pub input : HoldsInput looked task.input numbers
+  pub report : told ≡ finished (meaning_of tree numbers task.turns) empty_log
+  pub text : Appends sent.before sent.after (run_text tree (meaning_of tree numbers task.turns) task.memory [])
+
+-- The same of a replay, whose script is held and whose log is told.
+pub record HasReplayed (task : Task) (script : List ℕ) (log : Bool) (looked : Looked) (sent : Sent) (told : Told) : Type 0 where
+  pub tree : Program
+  pub numbers : List ℤ
+  pub commands : List Order
+  pub program : HoldsProgram looked task.file tree
+  pub input : HoldsInput looked task.input numbers
+  pub orders : HoldsScript looked script commands
+  pub replay : IsWholeReplay commands (entries_in (replay_image tree) tree numbers task.turns) told.log
+  pub report : told ≡ finished (meaning_of tree numbers task.turns) told.log
+  pub text : Appends sent.before sent.after (run_text tree (meaning_of tree numbers task.turns) task.memory (where_asked log (log_text told.log)))
+
+-- 0, 1 and 2 come with the sequential meaning of the program, and only of a command
+abbrev pub TellsMeaning : Option Command → Looked → Sent → Told → Type 0
+TellsMeaning None looked sent told = 2 < code_of told.status
+TellsMeaning (Some (seq task)) looked sent told = TellsFiles looked → code_of told.status ≤ 2 → HasRunInSequence task looked sent told
+TellsMeaning (Some (replay task script log)) looked sent told =
+    TellsFiles looked → code_of told.status ≤ 2 → HasReplayed task script log looked sent told
+
+-- while what was written ends before the end of the printed numbers' lines, neither outcome nor store are told; behind it both
+pub record IsCutBy (ran : Ran) (written : List ℕ) (told : Told) : Type 0 where
+  pub before : length written < length (number_lines ran.store.printed) → IsBare told
+  pub behind : length (number_lines ran.store.printed) < length written → (told.outcome ≡ Some ran.end) × (told.store ≡ Some ran.store)
+
+-- no read failed, the call was broken off, and the sink tells that these bytes were written
+pub record IsCut (looked : Looked) (sent : Sent) (told : Told) (written : List ℕ) : Type 0 where
+  pub reads : looked.failed ≡ looked.failed_before
+  pub broken : IsBrokenOff told
+  pub front : List ℕ
+  pub before : sent.before ≡ Some front
+  pub after : sent.after ≡ Some (front ++ written)
+
+-- After 15 and 16 outcome and store are both told or neither, by what was written; where the log is full, neither.
+abbrev pub TellsFront : Option Command → Looked → Sent → Told → Type 0
+TellsFront None looked sent told = IsBare told
+TellsFront (Some (seq task)) looked sent told =
+    (tree : Program) (numbers : List ℤ) (written : List ℕ) → HoldsProgram looked task.file tree → HoldsInput looked task.input numbers
+    → IsCut looked sent told written → IsCutBy (meaning_of tree numbers task.turns) written told
+TellsFront (Some (replay task script log)) looked sent told =
+    (tree : Program) (numbers : List ℤ) (commands : List Order) (written : List ℕ) → HoldsProgram looked task.file tree
+    → HoldsInput looked task.input numbers → HoldsScript looked script commands → IsCut looked sent told written
+    → (IsBare told × (length told.log.intervals ≡ most)) ⊎ IsCutBy (meaning_of tree numbers task.turns) written told
