@@ -1,6 +1,6 @@
 // The declarations at the head of a program.
 
-ghost use Rattle.std.specs.Prelude.{◌≡◌, ◌+◌, ◌<◌, ◌≤◌, ◌^◌, ◌++◌, false, length, drop, IfOk, OnOk};
+ghost use Rattle.std.specs.Prelude.{◌≡◌, ◌+◌, ◌<◌, ◌≤◌, ◌^◌, false, length, drop, IfOk, OnOk};
 ghost use Rattle.nona_tree.specs.Faults.{cells_faults, new_faults, declarations_faults};
 ghost use Rattle.nona_tree.specs.Ids.{arrays_ids, vars_ids};
 ghost use Rattle.nona_tree.specs.Run.{count_of};
