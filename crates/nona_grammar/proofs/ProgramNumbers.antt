@@ -1,5 +1,5 @@
 -- The numbers of a program are those of its tokens.
-use Rattle.std.proofs.Common.{◌≡◌, ℕ, ◌+◌, ◌^◌, ◌<◌, pos, Bool, List, [], ◌∷◌, arith}
+use Rattle.std.proofs.Common.{ℕ, pos, Bool, List, arith}
 use Rattle.std.specs.List.{AllByRecursion}
 use Rattle.std.proofs.lemmas.List.Elements.{All-from_recursion}
 use denote.Hole.Carrier.{hidden}
@@ -20,6 +20,7 @@ use Rattle.nona_grammar.specs.Grammar.{IsCell, IsIndex, IsPrimary, IsLevel, IsEx
 
 mutual
   unfolding hidden-the_row-Expr-1 hidden-the_row-Access-0 hidden
+
   -- of the index of a cell, and of the tokens behind the cell
   place_numbers : {ss rest : List Spot} {p : Access} → IsCell ss rest p → AreI64Tokens ss → IsI64Expr p.index × AreI64Tokens rest
   place_numbers (indexed-is n a b c ss rest wrap e i) h = let x = index_numbers i h.1.1 in (x.0, x.1.1)

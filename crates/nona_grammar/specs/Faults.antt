@@ -11,7 +11,8 @@ IsViable kind ss = (more : List Spot) × kind (ss ++ more)
 -- a token at the place is the first that no text of the kind has there: those before it are a front, and with it they are not
 abbrev pub StopsAt : (List Spot → Type 0) → List Spot → ℕ → Type 0
 StopsAt kind ss at =
-    (front : List Spot) × (x : Spot) × (later : List Spot) × (ss ≡ front ++ x ∷ later) × (at ≡ x.at) × IsViable kind front × (IsViable kind (front ++ x ∷ []) → ⊥)
+    (front : List Spot) × (x : Spot) × (later : List Spot) × (ss ≡ front ++ x ∷ later) × (at ≡ x.at) × IsViable kind front
+    × (IsViable kind (front ++ x ∷ []) → ⊥)
 
 -- the tokens are no text of the kind, but a front of one
 abbrev pub IsShort : (List Spot → Type 0) → List Spot → Type 0

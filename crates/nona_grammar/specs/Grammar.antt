@@ -84,7 +84,8 @@ mutual
     -- seq loop
     seq-for-is : (a : ℕ) (ss rest : List Spot) (l : Loop) → IsLoop ss rest true l → IsStmt (word w.Seq a ∷ ss) rest (stmt.For l)
     -- print expr ;
-    print-is : (a b : ℕ) (ss rest : List Spot) (e : Expr) → IsExpr ss (sign s.Semicolon b ∷ rest) e → IsStmt (word w.Print a ∷ ss) rest (stmt.Print e a)
+    print-is : (a b : ℕ) (ss rest : List Spot) (e : Expr) → IsExpr ss (sign s.Semicolon b ∷ rest) e
+        → IsStmt (word w.Print a ∷ ss) rest (stmt.Print e a)
 
   -- loop := for NAME in expr .. expr block
   pub data IsLoop : List Spot → List Spot → Bool → Loop → Type 0 where
@@ -95,7 +96,8 @@ mutual
 
   -- block := { stmt* }
   pub data IsBlock : List Spot → List Spot → List Stmt → Type 0 where
-    block-is : (a b : ℕ) (ss rest : List Spot) (body : List Stmt) → IsStmts ss (sign s.CloseBlock b ∷ rest) body → IsBlock (sign s.OpenBlock a ∷ ss) rest body
+    block-is : (a b : ℕ) (ss rest : List Spot) (body : List Stmt) → IsStmts ss (sign s.CloseBlock b ∷ rest) body
+        → IsBlock (sign s.OpenBlock a ∷ ss) rest body
 
   -- what may stand behind the first block of an if: nothing, or   else block
   pub data IsElse : List Spot → List Spot → List Stmt → Type 0 where
@@ -105,7 +107,8 @@ mutual
   -- stmt*
   pub data IsStmts : List Spot → List Spot → List Stmt → Type 0 where
     no-more : (rest : List Spot) → IsStmts rest rest []
-    one-more : (ss mid rest : List Spot) (first : Stmt) (later : List Stmt) → IsStmt ss mid first → IsStmts mid rest later → IsStmts ss rest (first ∷ later)
+    one-more : (ss mid rest : List Spot) (first : Stmt) (later : List Stmt) → IsStmt ss mid first → IsStmts mid rest later
+        → IsStmts ss rest (first ∷ later)
 
 -- decl*,   decl := array NAME [ NUMBER ] ; | var NAME ; | var NAME = NUMBER ;
 pub data IsDecls : List Spot → List Spot → List ArrayDecl → List VarDecl → Type 0 where
@@ -114,9 +117,11 @@ pub data IsDecls : List Spot → List Spot → List ArrayDecl → List VarDecl �
       → IsDecls (word w.Array a ∷ name n b ∷ sign s.OpenIndex c ∷ number m d ∷ sign s.CloseIndex e ∷ sign s.Semicolon f ∷ ss) rest
       (record { name = named n b; cells = m; cells_at = d } ∷ arrays) vars
   var-is : (n : List ℕ) (a b c : ℕ) (ss rest : List Spot) (arrays : List ArrayDecl) (vars : List VarDecl) → IsDecls ss rest arrays vars
-      → IsDecls (word w.Var a ∷ name n b ∷ sign s.Semicolon c ∷ ss) rest arrays (record { name = named n b; value = pos 0 } ∷ vars)
+      → IsDecls (word w.Var a ∷ name n b ∷ sign s.Semicolon c ∷ ss) rest arrays
+      (record { name = named n b; value = pos 0 } ∷ vars)
   var-value-is : (n : List ℕ) (m : ℤ) (a b c d e : ℕ) (ss rest : List Spot) (arrays : List ArrayDecl) (vars : List VarDecl) → IsDecls ss rest arrays vars
-      → IsDecls (word w.Var a ∷ name n b ∷ sign s.Set c ∷ number m d ∷ sign s.Semicolon e ∷ ss) rest arrays (record { name = named n b; value = m } ∷ vars)
+      → IsDecls (word w.Var a ∷ name n b ∷ sign s.Set c ∷ number m d ∷ sign s.Semicolon e ∷ ss) rest arrays
+      (record { name = named n b; value = m } ∷ vars)
 
 -- program := decl* stmt*
 abbrev pub IsProgram : List Spot → Program → Type 0

@@ -12,7 +12,7 @@ use Rattle.nona_lex.specs.declared.tokens.Spot.{Spot}
 use Rattle.nona_tree.specs.declared.trees.Op.{Op}
 use Rattle.nona_tree.specs.declared.trees.Expr.TheVariants as expr
 use Rattle.nona_grammar.specs.Levels.{named, op_of, level, loosest, comparisons}
-use Rattle.nona_grammar.specs.Stack.{Trees, Act, Leaf, Negate, Invert, Join, Reach, Fetch, Bind, Assign, Merge, Store, Begin, Branch, Repeat, Each, Show, Array, Var, with_block, act}
+use Rattle.nona_grammar.specs.Stack.{Trees, empty, Act, Leaf, Negate, Invert, Join, Reach, Fetch, Bind, Assign, Merge, Store, Begin, Branch, Repeat, Each, Show, Array, Var, with_block, act}
 
 -- what may be still to come: what is made of the trees so far, single tokens, and the kinds of the grammar
 pub data Sym : Type 0 where
@@ -305,3 +305,7 @@ behind_step (Some x) at later = later x.0 x.1
 abbrev pub build : ℕ → List Sym → Trees → List Spot → Result Trees ℕ
 build end k v [] = finish end k v
 build end k v (s ∷ ss) = behind_step (step k v s) s.at (λ k' v'. build end k' v' ss)
+
+-- the trees of a whole text's tokens
+abbrev pub built : ℕ → List Spot → Result Trees ℕ
+built end ss = build end (Decls ∷ Stmts ∷ []) empty ss

@@ -21,7 +21,8 @@ pub record Trees : Type 0 where
   pub arrays : List ArrayDecl
   pub vars : List VarDecl
 
--- what is made: a leaf, an expression of the newest or of the two newest, the place of a cell, the cell of the newest place, each statement, the beginning of a block, an array, a variable
+-- what is made: a leaf, an expression of the newest or of the two newest, the place of a cell, the cell of the newest place, each
+-- statement, the beginning of a block, an array, a variable
 pub data Act : Type 0 where
   Leaf : Expr → Act
   Negate : Act

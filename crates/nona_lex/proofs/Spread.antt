@@ -1,5 +1,5 @@
 -- The tokens of a text stand in it with blanks and comments between them alone.
-use Rattle.std.proofs.Common.{◌≡◌, ℕ, zero, suc, ◌+◌, ◌-◌, ◌<◌, ◌≤◌, Bool, true, false, nat_lt, pos, ◌==◌, List, [], ◌∷◌, length, take, drop, refl, ap, sym, subst, ◌∙◌, inl, inr, arith, None, Some}
+use Rattle.std.proofs.Common.{◌≡◌, ℕ, zero, suc, ◌+◌, ◌≤◌, Bool, true, false, nat_lt, pos, ◌==◌, List, [], ◌∷◌, length, take, drop, refl, sym, subst, inl, inr, arith, None, Some}
 use Rattle.std.specs.Prelude.{◌⊎◌}
 use Rattle.std.specs.declared.option.Option.{Option}
 use Rattle.std.specs.List.{take_while}
@@ -15,15 +15,14 @@ use Rattle.nona_lex.specs.declared.tokens.Token.{Token}
 use Rattle.nona_lex.specs.declared.tokens.Token.TheVariants as token
 use Rattle.nona_lex.specs.declared.tokens.Fault.TheVariants as fault
 use Rattle.nona_lex.specs.declared.tokens.Cut.{Cut}
-use Rattle.nona_lex.specs.declared.tokens.Spot.{Spot}
 use Rattle.nona_lex.specs.declared.tokens.Tokens.{Tokens}
 use Rattle.nona_lex.specs.Words.{is_letter, is_word_byte, fold_word}
 use Rattle.nona_lex.specs.Signs.{token_of_two, token_of_one}
-use Rattle.nona_lex.specs.Lexis.{lexeme_of, word_token, fold_or_word, word_lexeme, number_lexeme, sign_lexeme, sign_lexeme_of, single_lexeme, begins_with, lexed_from, lexed}
+use Rattle.nona_lex.specs.Lexis.{lexeme_of, fold_or_word, word_lexeme, number_lexeme, sign_lexeme, sign_lexeme_of, single_lexeme, begins_with, lexed_from}
 use Rattle.nona_lex.specs.Bounds.{Counts, no_counts, behind_token, admitted, bounded_from, tokens_of}
 use Rattle.nona_lex.specs.Progress.{FitsIn}
 use Rattle.nona_lex.specs.Spelling.{Spells}
-use Rattle.nona_lex.specs.Laws.{IsSpelled, lexeme_and_rest, comment_length, IsLaidOut, no-more, blank-is, comment-is, token-is, IsLeft, AreSpread}
+use Rattle.nona_lex.specs.Laws.{IsSpelled, lexeme_and_rest, comment_length, IsLaidOut, tokens-end, blank-is, comment-is, token-is, IsLeft, AreSpread}
 use Rattle.nona_lex.proofs.Choices.{either}
 use Rattle.nona_lex.proofs.Within.{lexeme_within}
 use Rattle.nona_lex.proofs.Spelled.{front_is_spelled}
@@ -103,8 +102,7 @@ comment_spread : (at b len : ℕ) (bs : List ℕ) (tokens : Tokens) → len ≤ 
     → AreSpread (at + len) (drop len (b ∷ bs)) tokens → AreSpread at (b ∷ bs) tokens
 comment_spread at b len bs tokens within hash long (rest, laid, left) =
     let behind = subst (λ n. IsLaidOut (at + n) (drop n (b ∷ bs)) tokens.spots rest) long laid in
-    let at_hash = subst (λ x. IsLaidOut (at + comment_length (x ∷ bs)) (drop (comment_length (x ∷ bs)) (x ∷ bs)) tokens.spots rest) hash behind in
-    (
+    let at_hash = subst (λ x. IsLaidOut (at + comment_length (x ∷ bs)) (drop (comment_length (x ∷ bs)) (x ∷ bs)) tokens.spots rest) hash behind in (
       rest,
       subst (λ x. IsLaidOut at (x ∷ bs) tokens.spots rest) (sym hash) (comment-is at bs rest tokens.spots at_hash),
       same_end at len (b ∷ bs) tokens.cut rest within left,
@@ -121,7 +119,7 @@ token_spread : (at b len : ℕ) (bs : List ℕ) (t : Token) (o : Option Counts) 
 token_spread at b len bs t (Some d) later within spelled more =
     let m = more d in
     (m.0, token-is at len t (b ∷ bs) m.0 (later d).spots within spelled m.1, same_end at len (b ∷ bs) (later d).cut m.0 within m.2)
-token_spread at b len bs t None later within spelled more = (b ∷ bs, no-more at (b ∷ bs), (omega arith, refl))
+token_spread at b len bs t None later within spelled more = (b ∷ bs, tokens-end at (b ∷ bs), (omega arith, refl))
 
 -- bytes of at most this length, whatever stands before them
 abbrev pub SpreadUpTo : ℕ → Type 0
@@ -136,11 +134,11 @@ lexeme_spread n again c at b bs short (Found t len) fits gap spelled =
     let later : Tokens = lexed_from 0 (at + len) (drop len (b ∷ bs)) in
     token_spread at b len bs t (behind_token t c) (λ d. kept d later) fits.1 spelled
     (λ d. again d (at + len) (drop len (b ∷ bs)) (omega (arith, fits.0, length-drop len (b ∷ bs))))
-lexeme_spread n again c at b bs short (Refused f) fits gap spelled = (b ∷ bs, no-more at (b ∷ bs), (omega arith, refl))
+lexeme_spread n again c at b bs short (Refused f) fits gap spelled = (b ∷ bs, tokens-end at (b ∷ bs), (omega arith, refl))
 
 spread : (n : ℕ) → SpreadUpTo n
 unfolding bounded_from lexed_from
-spread n c at [] short = ([], no-more at [], refl)
+spread n c at [] short = ([], tokens-end at [], refl)
 spread zero c at (b ∷ bs) short = absurd (omega arith)
 spread (suc n) c at (b ∷ bs) short =
     subst (λ tokens. AreSpread at (b ∷ bs) (kept c tokens)) (sym (lexemes_follow at b bs))

@@ -1,9 +1,8 @@
 -- The numbers among the tokens of a text have 64 bits.
-use Rattle.std.proofs.Common.{◌≡◌, ℕ, zero, suc, ◌+◌, ◌-◌, ◌<◌, ◌^◌, Bool, true, nat_lt, pos, List, [], ◌∷◌, length, take, refl, sym, subst, ◌∙◌, arith, None, Some}
+use Rattle.std.proofs.Common.{◌≡◌, ℕ, zero, suc, ◌+◌, ◌-◌, true, nat_lt, pos, List, [], ◌∷◌, length, take, refl, sym, subst, ◌∙◌, arith, None, Some}
 use Rattle.std.specs.declared.option.Option.{Option}
 use Rattle.std.specs.List.{list_all, take_while}
 use Rattle.std.proofs.lemmas.Bool.{ltb-false}
-use Rattle.nona_tree.specs.Numbers.{IsI64}
 use Rattle.nona_text.specs.Bytes.{is_digit, number_of}
 use Rattle.nona_text.specs.declared.digits.TheConstants.{GREATEST}
 use Rattle.nona_lex.specs.declared.lexemes.Lexeme.{Lexeme}
@@ -16,7 +15,7 @@ use Rattle.nona_lex.specs.declared.tokens.Spot.{Spot}
 use Rattle.nona_lex.specs.declared.tokens.Tokens.{Tokens}
 use Rattle.nona_lex.specs.Lexis.{lexeme_of, number_lexeme, goes_on, lexed_from, lexed}
 use Rattle.nona_lex.specs.Bounds.{Counts, no_counts, behind_token, admitted, bounded_from, tokens_of}
-use Rattle.nona_lex.specs.Spelling.{Spells, is_number}
+use Rattle.nona_lex.specs.Spelling.{is_number}
 use Rattle.nona_lex.specs.Laws.{IsSpelled, IsI64Token, AreI64Tokens}
 use Rattle.nona_lex.proofs.Choices.{either, first_test, at_digit}
 use Rattle.nona_lex.proofs.Spelled.{front_is_spelled}

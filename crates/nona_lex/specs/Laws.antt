@@ -53,12 +53,15 @@ LexemesFollow = (at b : ℕ) (bs : List ℕ) → lexed_from 0 at (b ∷ bs) ≡ 
 abbrev pub comment_length : List ℕ → ℕ
 comment_length bytes = length (take_while is_comment_byte bytes)
 
--- the bytes from a place on are blanks, comments from `#` on, and these tokens, each spelled by the bytes at its place; `rest` is left
+-- the bytes from a place on are blanks, comments from `#` on, and these tokens, each spelled by the bytes at its place; `rest`
+-- is left
 pub data IsLaidOut : ℕ → List ℕ → List Spot → List ℕ → Type 0 where
-  no-more : (at : ℕ) (rest : List ℕ) → IsLaidOut at rest [] rest
-  blank-is : (at b : ℕ) (bytes rest : List ℕ) (spots : List Spot) → IsTrue (is_blank b) → IsLaidOut (at + 1) bytes spots rest → IsLaidOut at (b ∷ bytes) spots rest
+  tokens-end : (at : ℕ) (rest : List ℕ) → IsLaidOut at rest [] rest
+  blank-is : (at b : ℕ) (bytes rest : List ℕ) (spots : List Spot) → IsTrue (is_blank b)
+      → IsLaidOut (at + 1) bytes spots rest → IsLaidOut at (b ∷ bytes) spots rest
   comment-is : (at : ℕ) (bytes rest : List ℕ) (spots : List Spot)
-      → IsLaidOut (at + comment_length (35 ∷ bytes)) (drop (comment_length (35 ∷ bytes)) (35 ∷ bytes)) spots rest → IsLaidOut at (35 ∷ bytes) spots rest
+      → IsLaidOut (at + comment_length (35 ∷ bytes)) (drop (comment_length (35 ∷ bytes)) (35 ∷ bytes)) spots rest
+      → IsLaidOut at (35 ∷ bytes) spots rest
   token-is : (at len : ℕ) (t : Token) (bytes rest : List ℕ) (spots : List Spot) → len ≤ length bytes → Spells (take len bytes) t
       → IsLaidOut (at + len) (drop len bytes) spots rest → IsLaidOut at bytes (record { token = t; at = at } ∷ spots) rest
 

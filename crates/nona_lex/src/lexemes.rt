@@ -116,7 +116,10 @@ fn word(word: &[u8], behind: &[u8]) -> Lexeme
         return Lexeme::Refused(Fault::NameLong);
     }
     match fold_word(word) {
-        Some(fold) if begins_with_equals(behind) => Lexeme::Found(Token::Fold(fold), word.len() + 1),
+        Some(fold) if begins_with_equals(behind) => Lexeme::Found(
+            Token::Fold(fold),
+            word.len() + 1,
+        ),
         _ => Lexeme::Found(word_token(word), word.len()),
     }
 }

@@ -2,13 +2,13 @@
 //!
 //! `specs/` says what the tokens of a text are: `Words` and `Signs` how each is spelled, `Lexis` the list by the
 //! longest match, and `Bounds` how deep brackets and operators may stand. `Spelling` and `Laws` say in words of the
-//! text alone what the longest match is.
+//! text alone what the longest match is, and that blanks and comments alone stand between tokens.
 #![tactic(auto)]
 
 mod bounds;
 mod law;
-mod lexer;
 mod lexemes;
+mod lexer;
 #[cfg(test)]
 mod tests;
 mod tokens;

@@ -1,5 +1,5 @@
 -- A text is a program, or it is refused for one reason.
-use Rattle.std.proofs.Common.{◌≡◌, ◌≢◌, ℕ, List, length, [], ◌∷◌, ◌++◌, ap, sym, ◌∙◌, subst, append_assoc, Ok, Err, None, Some, inl, inr, refl}
+use Rattle.std.proofs.Common.{◌≡◌, ℕ, List, length, [], ◌∷◌, ◌++◌, ap, sym, ◌∙◌, subst, append_assoc, Ok, Err, None, Some, inl, inr, refl}
 use Rattle.std.specs.Prelude.{◌⊎◌}
 use Rattle.std.specs.declared.option.Option.{Option}
 use Rattle.std.specs.declared.result.Result.{Result}
@@ -11,11 +11,11 @@ use Rattle.nona_lex.specs.declared.tokens.Spot.{Spot}
 use Rattle.nona_tree.specs.declared.trees.Program.{Program}
 use Rattle.nona_grammar.specs.Faults.{IsViable, StopsAt, IsShort, FirstFault, IsText, FaultAt}
 use Rattle.nona_grammar.specs.Grammar.{IsProgram}
-use Rattle.nona_grammar.specs.Machine.{Decls, Stmts, build}
-use Rattle.nona_grammar.specs.Stack.{Trees, empty}
+use Rattle.nona_grammar.specs.Machine.{built}
+use Rattle.nona_grammar.specs.Stack.{Trees}
 use Rattle.nona_parse.specs.declared.fault.ParseFault.{ParseFault}
 use Rattle.nona_parse.specs.declared.fault.ParseFault.TheVariants as parse
-use Rattle.nona_parse.specs.Reading.{IsReading, IsRefusal, IsCutAt, IsSyntaxAt, IsSyntaxBefore, IsRefusedFor, IsReadOrRefused}
+use Rattle.nona_parse.specs.Reading.{IsReading, IsCutAt, IsSyntaxAt, IsSyntaxBefore, IsRefusedFor, IsReadOrRefused}
 use Rattle.nona_parse.specs.Steps.{refusal_of}
 use Rattle.nona_parse.proofs.Refusals.{Sound, Exact, whole_front, cut_refused, refused_program}
 
@@ -151,10 +151,10 @@ by_fault : (text : List ℕ) (at : ℕ) → FaultAt (length text) (tokens_of tex
 by_fault text at (inl stops) = by_stop text (tokens_of text).cut refl at stops
 by_fault text at (inr short) = by_short text (tokens_of text).cut refl short.1
 
-by_build : Sound → Exact → (text : List ℕ) (r : Result Trees ℕ) → build (length text) (Decls ∷ Stmts ∷ []) empty (tokens_of text).spots ≡ r → IsReadOrRefused text
-by_build sound exact text (Ok out) is =
+by_built : Sound → Exact → (text : List ℕ) (r : Result Trees ℕ) → built (length text) (tokens_of text).spots ≡ r → IsReadOrRefused text
+by_built sound exact text (Ok out) is =
     let s = sound (length text) (tokens_of text).spots out is in by_program text (tokens_of text).cut refl s.0 s.1
-by_build sound exact text (Err at) is = by_fault text at (exact (length text) (tokens_of text).spots at is)
+by_built sound exact text (Err at) is = by_fault text at (exact (length text) (tokens_of text).spots at is)
 
 pub read_or_refused : Sound → Exact → (text : List ℕ) → IsReadOrRefused text
-read_or_refused sound exact text = by_build sound exact text (build (length text) (Decls ∷ Stmts ∷ []) empty (tokens_of text).spots) refl
+read_or_refused sound exact text = by_built sound exact text (built (length text) (tokens_of text).spots) refl

@@ -1,5 +1,6 @@
--- What a function says of the tokens that it takes: how the machine goes on there, wherever the text ends, whatever is to come behind them and whatever was read before.
-use Rattle.std.specs.Prelude.{◌≡◌, ℕ, List, [], ◌∷◌, ◌++◌, Err}
+-- What a function says of the tokens that it takes: how the machine goes on there, wherever the text ends, whatever is to come
+-- behind them and whatever was read before.
+use Rattle.std.specs.Prelude.{◌≡◌, ℕ, List, ◌∷◌, ◌++◌, Err}
 use Rattle.nona_lex.specs.declared.tokens.Fault.{Fault}
 use Rattle.nona_lex.specs.declared.tokens.Fault.TheVariants as lex
 use Rattle.nona_lex.specs.declared.tokens.Spot.{Spot}
@@ -7,8 +8,8 @@ use Rattle.nona_tree.specs.declared.trees.Access.{Access}
 use Rattle.nona_tree.specs.declared.trees.ArrayDecl.{ArrayDecl}
 use Rattle.nona_tree.specs.declared.trees.VarDecl.{VarDecl}
 use Rattle.nona_grammar.specs.Faults.{IsShort, IsText, StopsAt}
-use Rattle.nona_grammar.specs.Stack.{Trees, empty}
-use Rattle.nona_grammar.specs.Machine.{Sym, Decls, Stmts, build}
+use Rattle.nona_grammar.specs.Stack.{Trees}
+use Rattle.nona_grammar.specs.Machine.{Sym, build, built}
 use Rattle.nona_parse.specs.declared.fault.ParseFault.{ParseFault}
 use Rattle.nona_parse.specs.declared.fault.ParseFault.TheVariants as parse
 use Rattle.nona_parse.specs.declared.fault.ReadFault.{ReadFault}
@@ -47,8 +48,8 @@ Fails (Syntax at) new ss = (end : ℕ) (k : List Sym) (v : Trees) → build end 
 -- at these tokens the machine is stuck at a place, or at the text's end wherever it is, or memory has run out
 abbrev pub IsStuck : ReadFault → List Spot → Type 0
 IsStuck NoMemory ss = Unit {0}
-IsStuck Ended ss = (end : ℕ) → build end (Decls ∷ Stmts ∷ []) empty ss ≡ Err end
-IsStuck (Syntax at) ss = (end : ℕ) → build end (Decls ∷ Stmts ∷ []) empty ss ≡ Err at
+IsStuck Ended ss = (end : ℕ) → built end ss ≡ Err end
+IsStuck (Syntax at) ss = (end : ℕ) → built end ss ≡ Err at
 
 -- these tokens are no program: one of them fits nowhere, or they are only the front of one; or memory has run out
 abbrev pub IsUnread : ReadFault → List Spot → Type 0

@@ -32,11 +32,7 @@ pub fn expression(alloc: Global, spots: &[Spot]) -> Result<(Expr, &[Spot]), Read
 
 /// An expression that begins with `first`, which a comparison may follow, and one only.
 #[cycle(expr)]
-fn compared(
-    alloc: Global,
-    first: Boxed<Expr>,
-    spots: &[Spot],
-) -> Result<(Expr, &[Spot]), ReadFault>
+fn compared(alloc: Global, first: Boxed<Expr>, spots: &[Spot]) -> Result<(Expr, &[Spot]), ReadFault>
     ensures shorter { IfOk result (λ x. length x.1.now ≤ length spots.now) }
     ensures read { MatchResult result
         (λ x. ReadsBehind (Compare ∷ []) (push first) spots.now (push x.0) x.1.now)
@@ -61,11 +57,7 @@ fn compared(
 
 /// An expression whose operators are of this level and those below: at level 0 of none but one sign before it.
 #[cycle(expr)]
-fn operand(
-    alloc: Global,
-    level: u8,
-    spots: &[Spot],
-) -> Result<(Boxed<Expr>, &[Spot]), ReadFault>
+fn operand(alloc: Global, level: u8, spots: &[Spot]) -> Result<(Boxed<Expr>, &[Spot]), ReadFault>
     requires { level ≤ loosest }
     ensures shorter { IfOk result (λ x. length x.1.now < length spots.now) }
     ensures read { MatchResult result

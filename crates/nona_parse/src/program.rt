@@ -1,9 +1,9 @@
-ghost use Rattle.std.specs.Prelude.{◌≡◌, ◌≤◌, ◌^◌, ◌∷◌, [], ◌⊎◌, ℕ, List, length, Ok, Err, IfOk, IfErr, MatchResult};
+ghost use Rattle.std.specs.Prelude.{◌≡◌, ◌≤◌, ◌⊎◌, ℕ, List, length, Ok, Err, IfOk, IfErr, MatchResult};
 ghost use Rattle.nona_tree.specs.Numbers.{IsI64Program};
 ghost use Rattle.nona_tree.specs.Smallness.{IsSmall};
 ghost use Rattle.nona_tree.specs.declared.trees.Program.{Program};
-ghost use Rattle.nona_grammar.specs.Stack.{empty, whole_of};
-ghost use Rattle.nona_grammar.specs.Machine.{Decls, Stmts, build};
+ghost use Rattle.nona_grammar.specs.Stack.{whole_of};
+ghost use Rattle.nona_grammar.specs.Machine.{built};
 ghost use Rattle.nona_grammar.specs.Grammar.{IsProgram};
 ghost use Rattle.nona_lex.specs.Bounds.{tokens_of};
 ghost use Rattle.nona_parse.specs.Steps.{IsStuck, IsUnread, refusal_of};
@@ -18,6 +18,9 @@ use nona_lex::{Cut, Fault, Spot, read_tokens, tokens_are_few, tokens_are_i64};
 use nona_tree::Program;
 use std::alloc::Global;
 
+/// The most bytes of a program's text.
+pub const TEXT_BYTES: usize = 1_048_576;
+
 /// Reads the text of a program, of at most 2^20 bytes. The result is the one tree that the grammar gives the text; the
 /// names in it have the id 0, since they are not resolved, and its numbers have 64 bits. Takes time and memory in proportion to the text, and stack
 /// in proportion to the brackets that are open at once, of which there are 64 at most.
@@ -25,7 +28,7 @@ use std::alloc::Global;
 /// A text that is no program is refused for its first fault from the left. The only other refusal is `NoMemory`, after
 /// which the text may still be a program.
 pub fn parse(alloc: Global, text: &[u8]) -> Result<Program, ParseFault>
-    requires { length text.now ≤ 2 ^ 20 }
+    requires { length text.now ≤ TEXT_BYTES }
     ensures reads { IfOk result (λ p. IsReading text.now p) }
     ensures small { IfOk result (λ p. IsSmall p) }
     ensures numbers { IfOk result (λ p. IsI64Program p) }
@@ -98,7 +101,7 @@ fn read_program(alloc: Global, spots: &[Spot]) -> Result<Program, ReadFault>
 /// The program that the machine makes of these tokens.
 fn build_program(alloc: Global, spots: &[Spot]) -> Result<Program, ReadFault>
     ensures { MatchResult result
-        (λ p. (end : ℕ) → build end (Decls ∷ Stmts ∷ []) empty spots.now ≡ Ok (whole_of p))
+        (λ p. (end : ℕ) → built end spots.now ≡ Ok (whole_of p))
         (λ fault. IsStuck fault spots.now) }
 {
     let (declared, rest) = declarations(alloc, spots)?;

@@ -33,10 +33,7 @@ fn a_program(rt: HostRuntime) -> Result<(), Fail> {
 fn refusals(rt: HostRuntime) {
     let table: [(&[u8], ParseFault); 4] = [
         (b"print 1 @;", ParseFault::Byte { at: 8 }),
-        (
-            b"print 9223372036854775808;",
-            ParseFault::Number { at: 6 },
-        ),
+        (b"print 9223372036854775808;", ParseFault::Number { at: 6 }),
         (
             b"print abcdefghijklmnopqrstuvwxyz_012345;",
             ParseFault::NameLong { at: 6 },

@@ -8,7 +8,7 @@ use Rattle.nona_tree.specs.declared.trees.Access.{Access}
 use Rattle.nona_tree.specs.declared.trees.Expr.TheVariants as expr
 use Rattle.nona_grammar.specs.Levels.{named, loosest}
 use Rattle.nona_grammar.specs.Stack.{Trees, Leaf, Join, Reach, Fetch, act, push}
-use Rattle.nona_grammar.specs.Machine.{Sym, Do, Want, Whole, Compare, Level, Tail, Primary, Index, MaybeCell, build}
+use Rattle.nona_grammar.specs.Machine.{Sym, Do, Want, Whole, Compare, Level, Tail, Primary, Index, build}
 use Rattle.nona_grammar.proofs.Machining.{acted, whole_is}
 use Rattle.nona_parse.specs.Steps.{reaches}
 use Rattle.nona_parse.specs.Prefixes.{acts_of}
