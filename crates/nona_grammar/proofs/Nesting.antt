@@ -11,7 +11,7 @@ use Rattle.nona_lex.specs.declared.tokens.Spot.{Spot}
 use Rattle.nona_lex.specs.declared.tokens.Cut.{Cut}
 use Rattle.nona_lex.specs.declared.tokens.Tokens.{Tokens}
 use Rattle.nona_lex.specs.declared.bounds.TheConstants.{BRACKETS}
-use Rattle.nona_lex.specs.Bounds.{Counts, no_counts, opened, closed_to, behind_sign, behind_token, admitted, bounded_from, bounded}
+use Rattle.nona_lex.specs.Bounds.{Counts, no_counts, behind_opening, closed_to, behind_sign, behind_token, admitted, bounded_from, bounded}
 use Rattle.nona_tree.specs.declared.trees.Access.{Access}
 use Rattle.nona_tree.specs.declared.trees.Expr.{Expr}
 use Rattle.nona_tree.specs.declared.trees.Loop.{Loop}
@@ -22,7 +22,7 @@ use Rattle.nona_tree.specs.declared.trees.VarDecl.{VarDecl}
 use Rattle.nona_tree.specs.declared.trees.Program.{Program}
 use Rattle.nona_tree.specs.Smallness.{stmt_nesting, all_nesting, nesting_of}
 use Rattle.nona_tree.proofs.CheckEquations.{nesting-If, nesting-While, nesting-For}
-use Rattle.nona_grammar.specs.Grammar.{IsPlace, IsIndex, IsPrimary, IsLevel, IsExpr, IsStmt, IsLoop, IsBlock, IsElse, IsStmts, IsDecls, IsProgram, place-is, plain-is, wrap-is, number-is, scalar-is, cell-is, len-is, brackets-are, primary-is, negated-is, inverted-is, lower-is, joined-is, level-is, compared-is, let-is, set-is, fold-is, put-is, fold-put-is, if-is, while-is, for-is, seq-for-is, print-is, loop-is, block-is, no-else, else-is, no-more, one-more, no-decl, array-is, var-is, var-value-is}
+use Rattle.nona_grammar.specs.Grammar.{IsCell, IsIndex, IsPrimary, IsLevel, IsExpr, IsStmt, IsLoop, IsBlock, IsElse, IsStmts, IsDecls, IsProgram, indexed-is, plain-is, wrap-is, number-is, scalar-is, cell-is, len-is, brackets-are, primary-is, negated-is, inverted-is, lower-is, joined-is, level-is, compared-is, let-is, set-is, fold-is, put-is, fold-put-is, if-is, while-is, for-is, seq-for-is, print-is, loop-is, block-is, no-else, else-is, no-more, one-more, no-decl, array-is, var-is, var-value-is}
 
 -- ---- brackets
 
@@ -59,7 +59,7 @@ some_if true x d e = (refl, cc)
 some_if false x d e = absurd (cc)
 
 -- where one more bracket may be open, it is the newest
-one_opened : (c d : Counts) (P : ℕ → Type 0) → opened c ≡ Some d → P (length d.outside) → (suc (length c.outside) ≤ BRACKETS) × P (suc (length c.outside))
+one_opened : (c d : Counts) (P : ℕ → Type 0) → behind_opening c ≡ Some d → P (length d.outside) → (suc (length c.outside) ≤ BRACKETS) × P (suc (length c.outside))
 one_opened c d P e h =
     let o : Counts = record { operators = 0; outside = c.operators ∷ c.outside } in
     let r = some_if (nat_lt (length c.outside) BRACKETS) o d e in
@@ -113,8 +113,8 @@ shallow_bounded c (x ∷ ss) cut = shallow_admitted (behind_token x.token c) x c
 
 mutual
   -- behind a place as many brackets are open as before it
-  place_shallow : {ss rest : List Spot} {p : Access} → IsPlace ss rest p → (n : ℕ) → IsShallow n ss → IsShallow n rest
-  place_shallow (place-is n a b c ss rest wrap e i) m h = index_shallow i (suc m) h.1
+  place_shallow : {ss rest : List Spot} {p : Access} → IsCell ss rest p → (n : ℕ) → IsShallow n ss → IsShallow n rest
+  place_shallow (indexed-is n a b c ss rest wrap e i) m h = index_shallow i (suc m) h.1
 
   -- and behind an index
   index_shallow : {ss rest : List Spot} {wrap : Bool} {e : Expr} → IsIndex ss rest wrap e → (n : ℕ) → IsShallow n ss → IsShallow n rest

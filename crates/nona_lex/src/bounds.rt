@@ -1,7 +1,7 @@
 // The counts of open brackets and of operators.
 
 ghost use Rattle.std.specs.Prelude.{◌≡◌, IfOk, None, Some, true};
-ghost use Rattle.nona_lex.specs.Bounds.{no_counts, opened, operated, closed, restarted, behind_sign, behind_token};
+ghost use Rattle.nona_lex.specs.Bounds.{no_counts, behind_opening, behind_operator, behind_closing, restarted, behind_sign, behind_token};
 ghost use Rattle.nona_lex.specs.Progress.{counts_of, if_admitted};
 
 use crate::tokens::{Sign, Token};
@@ -60,7 +60,7 @@ impl Counter {
     }
 
     fn open(&mut self) -> Result<bool, AllocError>
-        ensures { IfOk result (λ b. if_admitted b self.new ≡ opened (counts_of self.old)) }
+        ensures { IfOk result (λ b. if_admitted b self.new ≡ behind_opening (counts_of self.old)) }
     {
         if self.outside.len() >= BRACKETS {
             return Ok(false);
@@ -71,7 +71,7 @@ impl Counter {
     }
 
     fn operate(&mut self) -> bool
-        ensures { if_admitted result self.new ≡ operated (counts_of self.old) }
+        ensures { if_admitted result self.new ≡ behind_operator (counts_of self.old) }
     {
         if self.operators >= OPERATORS {
             return false;
@@ -81,7 +81,7 @@ impl Counter {
     }
 
     fn close(&mut self)
-        ensures { counts_of self.new ≡ closed (counts_of self.old) }
+        ensures { counts_of self.new ≡ behind_closing (counts_of self.old) }
     {
         if let Some(operators) = self.outside.pop() {
             self.operators = operators;

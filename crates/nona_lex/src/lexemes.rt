@@ -4,20 +4,17 @@ ghost use Rattle.std.specs.Prelude.{◌≡◌, ◌+◌, ◌<◌, ◌≤◌, ◌^
 ghost use Rattle.nona_text.specs.Bytes.{is_digit};
 ghost use Rattle.nona_lex.specs.Words.{is_letter, is_word_byte, is_comment_byte, keyword_of, fold_word};
 ghost use Rattle.nona_lex.specs.Signs.{with_equals, doubled, token_of_two, operator_of_one, sign_of_one, token_of_one};
-ghost use Rattle.nona_lex.specs.Lexis.{word_token, begins_with, word_piece, number_piece, single_piece, sign_piece};
-ghost use Rattle.nona_lex.specs.Progress.{IsWithin, IsPiece};
+ghost use Rattle.nona_lex.specs.Lexis.{word_token, begins_with, word_lexeme, number_lexeme, single_lexeme, sign_lexeme};
+ghost use Rattle.nona_lex.specs.Progress.{FitsIn, IsLexeme};
 
 use crate::tokens::{Fault, Keyword, Operator, Sign, Token};
 use nona_num::Fold;
 use nona_text::{GREATEST, is_blank, is_digit, value};
-use nona_tree::Name;
-
-/// The most bytes of a word.
-pub const WORD_BYTES: usize = 32;
+use nona_tree::{NAME_BYTES, Name};
 
 /// What stands where a token may begin, and how many bytes it has.
 #[derive(Debug, Drop)]
-pub enum Piece {
+pub enum Lexeme {
     /// A blank or a comment.
     Gap(usize),
     Found(Token, usize),
@@ -93,7 +90,7 @@ fn fold_word(word: &[u8]) -> Option<Fold>
 }
 
 fn word_token(word: &[u8]) -> Token
-    requires { length word.now ≤ WORD_BYTES }
+    requires { length word.now ≤ NAME_BYTES }
     ensures { result ≡ word_token (keyword_of word.now) word.now }
 {
     match keyword(word) {
@@ -111,16 +108,19 @@ fn begins_with_equals(bytes: &[u8]) -> bool
     }
 }
 
-/// The piece of a word and the bytes behind it.
-fn word(word: &[u8], behind: &[u8]) -> Piece
-    ensures value { result ≡ word_piece word.now behind.now }
+/// The lexeme of a word and the bytes behind it.
+fn word(word: &[u8], behind: &[u8]) -> Lexeme
+    ensures value { result ≡ word_lexeme word.now behind.now }
 {
-    if word.len() > WORD_BYTES {
-        return Piece::Refused(Fault::NameLong);
+    if word.len() > NAME_BYTES {
+        return Lexeme::Refused(Fault::NameLong);
     }
     match fold_word(word) {
-        Some(fold) if begins_with_equals(behind) => Piece::Found(Token::Fold(fold), word.len() + 1),
-        _ => Piece::Found(word_token(word), word.len()),
+        Some(fold) if begins_with_equals(behind) => Lexeme::Found(
+            Token::Fold(fold),
+            word.len() + 1,
+        ),
+        _ => Lexeme::Found(word_token(word), word.len()),
     }
 }
 
@@ -132,14 +132,14 @@ fn number_token(value: u64) -> Token
     Token::Number(value as i64)
 }
 
-fn number(digits: &[u8]) -> Piece
-    ensures { result ≡ number_piece digits.now }
+fn number(digits: &[u8]) -> Lexeme
+    ensures { result ≡ number_lexeme digits.now }
 {
     let value = value(digits);
     if value > GREATEST {
-        Piece::Refused(Fault::Number)
+        Lexeme::Refused(Fault::Number)
     } else {
-        Piece::Found(number_token(value), digits.len())
+        Lexeme::Found(number_token(value), digits.len())
     }
 }
 
@@ -233,44 +233,44 @@ fn token_of_one(b: u8) -> Option<Token>
     }
 }
 
-/// The piece of one byte.
-fn single(b: u8) -> Piece
-    ensures { result ≡ single_piece (token_of_one b) }
+/// The lexeme of one byte.
+fn single(b: u8) -> Lexeme
+    ensures { result ≡ single_lexeme (token_of_one b) }
 {
     match token_of_one(b) {
-        Some(token) => Piece::Found(token, 1),
-        None => Piece::Refused(Fault::Byte),
+        Some(token) => Lexeme::Found(token, 1),
+        None => Lexeme::Refused(Fault::Byte),
     }
 }
 
-/// The piece of a byte that begins neither a word nor a number, and the bytes behind it.
-fn sign(b: u8, behind: &[u8]) -> Piece
-    ensures value { result ≡ sign_piece b behind.now }
-    ensures within { IsWithin result (length behind.now + 1) }
+/// The lexeme of a byte that begins neither a word nor a number, and the bytes behind it.
+fn sign(b: u8, behind: &[u8]) -> Lexeme
+    ensures value { result ≡ sign_lexeme b behind.now }
+    ensures within { FitsIn result (length behind.now + 1) }
 {
     match behind {
         [] => single(b),
         [c, ..] => match token_of_two(b, *c) {
-            Some(token) => Piece::Found(token, 2),
+            Some(token) => Lexeme::Found(token, 2),
             None => single(b),
         },
     }
 }
 
-/// The piece at the front of bytes.
-#[tactic(auto, unfolding(crate::specs::Lexis::piece_of))]
-pub fn first_piece(bytes: &[u8]) -> Piece
+/// The lexeme at the front of bytes.
+#[tactic(auto, unfolding(crate::specs::Lexis::lexeme_of))]
+pub fn first_lexeme(bytes: &[u8]) -> Lexeme
     requires { 0 < length bytes.now }
-    ensures { IsPiece bytes.now result }
+    ensures { IsLexeme bytes.now result }
 {
     match bytes {
         [] => unreachable!(),
         [first, behind @ ..] => {
             let first = *first;
             if is_blank(first) {
-                Piece::Gap(1)
+                Lexeme::Gap(1)
             } else if first == b'#' {
-                Piece::Gap(comment_len(bytes))
+                Lexeme::Gap(comment_len(bytes))
             } else if is_letter(first) {
                 let (front, back) = bytes.split_at(word_len(bytes));
                 word(front, back)
