@@ -1,5 +1,5 @@
 -- Tests on bytes, and the choices that rest on them.
-use Rattle.std.proofs.Common.{◌≡◌, ℕ, zero, suc, ◌≤◌, Bool, true, false, if◌then◌else◌, ◌&&◌, List, [], ◌∷◌, length, take, drop, refl, ap, arith}
+use Rattle.std.proofs.Common.{◌≡◌, ℕ, zero, suc, ◌≤◌, Bool, true, false, if◌then◌else◌, ◌&&◌, List, [], ◌∷◌, length, take, drop, refl, arith}
 use Rattle.std.specs.List.{list_all, take_while}
 use Rattle.std.proofs.lemmas.Bool.Decides.{nat_tests}
 use Rattle.std.proofs.lemmas.List.Sums.{take_while-cons}
@@ -47,8 +47,3 @@ all_taken p (suc k) (b ∷ bs) h w =
 pub taken_pass : (p : ℕ → Bool) (bs : List ℕ) → list_all p (take_while p bs) ≡ true
 taken_pass p [] = refl
 taken_pass p (b ∷ bs) = rw (take_while-cons p b bs) (either (λ l. list_all p l ≡ true) (p b) _ _ (λ e. rw e (taken_pass p bs)) (λ e. refl))
-
--- the first bytes, as many as are taken, are those taken
-pub taken_front : (p : ℕ → Bool) (bs : List ℕ) → take (length (take_while p bs)) bs ≡ take_while p bs
-taken_front p [] = refl
-taken_front p (b ∷ bs) = rw (take_while-cons p b bs) (either (λ l. take (length l) (b ∷ bs) ≡ l) (p b) _ _ (λ e. ap (λ l. b ∷ l) (taken_front p bs)) (λ e. refl))

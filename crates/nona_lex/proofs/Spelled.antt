@@ -23,7 +23,8 @@ use Rattle.nona_lex.specs.Signs.{with_equals, doubled, token_of_two, operator_of
 use Rattle.nona_lex.specs.Lexis.{lexeme_of, sign_lexeme, sign_lexeme_of, single_lexeme, word_lexeme, word_token, fold_or_word, number_lexeme, begins_with}
 use Rattle.nona_lex.specs.Spelling.{keyword_text, fold_text, is_word, is_number, Spells}
 use Rattle.nona_lex.specs.Laws.{IsSpelled}
-use Rattle.nona_lex.proofs.Choices.{either, letter_in_word, taken_pass, taken_front}
+use Rattle.nona_text.proofs.Splitting.{taken_front}
+use Rattle.nona_lex.proofs.Choices.{either, letter_in_word, taken_pass}
 
 -- the bytes spell the token, where there is one
 abbrev pub SpellsSome : List ℕ → Option Token → Type 0

@@ -1,7 +1,7 @@
 //! Plain texts that users write beside programs: their lines, the pieces between blanks, and numbers.
 //!
-//! `specs/` says what they are: `Pieces` where pieces and lines begin and end, `Digits` which bytes are numbers, and
-//! `Fronts` what the first of them leaves behind.
+//! `specs/` says what they are: `Bytes` which bytes are blanks and digits, `Pieces` where pieces and lines begin and end,
+//! `Digits` which bytes are numbers, and `Fronts` what the first of them leaves behind.
 #![tactic(auto)]
 
 mod bytes;
