@@ -5,4 +5,5 @@
 
 mod line;
 mod reading;
+
 pub use reading::{ScriptFault, read_script};

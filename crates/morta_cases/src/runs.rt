@@ -1,0 +1,79 @@
+//! Runs in one thread: statement by statement, and interval by interval.
+
+ghost use Rattle.std.specs.Prelude.{◌≡◌, ◌≤◌, IfOk};
+ghost use Rattle.nona_tree.specs.Checking.{IsChecked};
+ghost use Rattle.morta_task.specs.LogView.{empty_log};
+ghost use Rattle.morta_exec.specs.Log.{ServesAll};
+ghost use Rattle.morta_cases.specs.Cases.{image_of_case, store_of_case};
+
+use crate::programs::checked_of;
+use fate_io::MemorySink;
+use morta_exec::{Beginning, drive};
+use morta_plain::{OneThread, PlainAsker};
+use morta_task::{Asker, Both, Image, Log, Runner, reshapable_places};
+use nona_store::{Ended, Store};
+use nona_tree::{Checked, Outcome, Trap, TrapKind, checked_is_scoped};
+use nona_walk::run_checked;
+use std::alloc::{AllocError, Global};
+use std::test::Fail;
+
+/// The image of a program, each loop of which that may run in other versions is a region.
+fn image_of(alloc: Global, checked: &Checked) -> Result<Image, AllocError>
+    ensures { IfOk result (λ image. image ≡ image_of_case checked.now) }
+{
+    let places = reshapable_places(alloc, checked)?;
+    Image::of(alloc, checked, places.as_slice())
+}
+
+/// How a run ended, what it put, and its log.
+#[derive(Drop)]
+pub struct Run {
+    pub ended: Ended,
+    pub put: MemorySink,
+    pub log: Log,
+}
+
+/// Drives a program over no input, where a loop may take 100 turns.
+pub fn driven<M: Runner + Asker>(alloc: Global, checked: &Checked, morta: &mut M) -> Result<Run, Fail>
+    requires stands { (M.promise).stands_for morta.old empty_log }
+    requires serves { ServesAll M.promise morta.old (image_of_case checked.now) }
+{
+    checked_is_scoped();
+    checked.program();
+    let image = image_of(alloc, checked)?;
+    let store = Store::start(alloc, checked, Vec::new(alloc))?;
+    let mut put = MemorySink::new(alloc, 1000, Vec::new(alloc))?;
+    let mut log = Log::new(alloc);
+    let from = Beginning { store, turns: 100 };
+    let ended = drive(alloc, &image, from, morta, &mut put, &mut log)?;
+    Ok(Run { ended, put, log })
+}
+
+#[test]
+fn runs_of_one_thread(rt: HostRuntime) -> Result<(), Fail> {
+    let alloc = rt.alloc();
+    let trap = Outcome::Trap(Trap {
+        kind: TrapKind::Divide,
+        at: 24,
+    });
+    let table: [(&[u8], &[u8], Outcome, usize); 3] = [
+        (b"for i in 0..5 { print i; } print 9;", b"0\n1\n2\n3\n4\n9\n", Outcome::Done, 3),
+        (b"for i in 0..5 { print 7 / (3 - i); }", b"2\n3\n7\n", trap, 2),
+        (b"while 1 {}", b"", Outcome::OutOfTurns { at: 0 }, 0),
+    ];
+    for (text, put, outcome, intervals) in table {
+        let checked = checked_of(&rt, alloc, text)?;
+        let mut both = Both {
+            runner: OneThread,
+            asker: PlainAsker { until: Some(2) },
+        };
+        let run = driven(alloc, &checked, &mut both)?;
+        assert_eq!(rt; run.ended.outcome, outcome);
+        assert_eq!(rt; run.put.text(), put);
+        assert_eq!(rt; run.log.intervals().len(), intervals);
+        let walked = run_checked(alloc, &checked, Vec::new(alloc), 100)?;
+        assert_eq!(rt; walked.outcome, outcome);
+        assert_eq!(rt; walked.store.printed(), run.ended.store.printed());
+    }
+    Ok(())
+}
