@@ -23,7 +23,8 @@ order : IsPreorder MorePrinted
 order = printed_kept.order
 
 -- so does what goes on from a store, or has ended there
-after_prints : (m : Memory) (e : Outcome) (later : Memory → Course) → ((x : Memory) → MorePrinted x (later x).ran.store) → MorePrinted m (course_from m e later).ran.store
+after_prints : (m : Memory) (e : Outcome) (later : Memory → Course) → ((x : Memory) → MorePrinted x (later x).ran.store)
+    → MorePrinted m (course_from m e later).ran.store
 after_prints m outcome.Done later h = h m
 after_prints m (outcome.Trap t) later h = order.same m
 after_prints m (outcome.OutOfTurns at) later h = order.same m
@@ -43,10 +44,12 @@ task_prints chosen (task.Rest b) n r =
 task_prints chosen (task.Leave depth) n r = order.same r.store
 task_prints chosen (task.While w) n r =
     let body = w.body.statements.now in
-    after_prints r.store r.end (course_of_while chosen w.test.now body w.at w.left w.body.place.first n) (λ x. kept_while MorePrinted order w.at (value_of w.test.now) (block (run_all body n)) (block_prints body n) w.left x)
+    after_prints r.store r.end (course_of_while chosen w.test.now body w.at w.left w.body.place.first n)
+    (λ x. kept_while MorePrinted order w.at (value_of w.test.now) (block (run_all body n)) (block_prints body n) w.left x)
 task_prints chosen (task.For f) n r =
     let body = f.body.statements.now in
-    after_prints r.store r.end (course_of_turns chosen body f.next (int_gap f.next f.high) f.at f.left f.body.place.first n) (λ x. kept_for MorePrinted order f.at (turn (run_all body n)) f.next (turn_prints body n) (int_gap f.next f.high) f.left x)
+    after_prints r.store r.end (course_of_turns chosen body f.next (int_gap f.next f.high) f.at f.left f.body.place.first n)
+    (λ x. kept_for MorePrinted order f.at (turn (run_all body n)) f.next (turn_prints body n) (int_gap f.next f.high) f.left x)
 
 -- so do tasks, one after another
 tasks_print : (chosen : Loop → Bool) (ts : List Task) (n : ℕ) (r : Ran) → MorePrinted r.store (course_by chosen ts n r).ran.store
