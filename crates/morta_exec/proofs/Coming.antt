@@ -8,10 +8,9 @@ use Rattle.fate_io.specs.Sending.{Sent, BreaksOff}
 use Rattle.fate_io.specs.declared.sending.SendFault.{SendFault}
 use Rattle.nona_tree.specs.declared.outcomes.Outcome.{Outcome}
 use Rattle.nona_tree.specs.declared.trees.Loop.{Loop}
-use Rattle.nona_tree.specs.declared.trees.Stmt.{For}
+use Rattle.nona_tree.specs.declared.trees.Stmt.{Stmt, For}
 use Rattle.nona_tree.specs.Memory.{Memory, Extends}
 use Rattle.nona_tree.specs.Run.{Ran, run}
-use Rattle.nona_tree.proofs.Keeps.{MorePrinted, printed_kept, run_kept}
 use Rattle.nona_main.specs.declared.frame.Stop.{Stop}
 use Rattle.nona_main.specs.declared.frame.Stop.TheVariants as stop
 use Rattle.nona_main.specs.Course.{Course}
@@ -19,18 +18,19 @@ use Rattle.nona_main.specs.Frame.{Stops, opened}
 use Rattle.morta_task.specs.declared.opening.Opening.{Opening}
 use Rattle.morta_task.specs.declared.regions.RegionCode.{RegionCode}
 use Rattle.morta_task.specs.declared.intervals.Interval.{Interval}
-use Rattle.morta_task.specs.Entries.{EntryView, entered, plan_of, numbered, numbered_from}
+use Rattle.morta_task.specs.Entries.{EntryView, entered, plan_of, numbered}
 use Rattle.morta_task.specs.LogView.{LogView}
 use Rattle.morta_task.specs.Promise.{Promise}
 use Rattle.morta_task.specs.Legal.{entry_number, begun, last_in, EndsAll}
 use Rattle.morta_exec.specs.declared.fault.DriveFault.TheVariants.{NoMemory}
 use Rattle.morta_text.specs.Texts.{number_line, number_lines}
-use Rattle.morta_exec.specs.Began.{Began, entries_in, run_in}
+use Rattle.morta_exec.specs.Began.{Began, all_entries, whole_run}
 use Rattle.morta_exec.specs.Places.{ClosedBy, ComesBehind, before_entry, at_end}
-use Rattle.morta_exec.specs.Faults.{fault_of}
+use Rattle.morta_exec.specs.Faults.{drive_fault}
 use Rattle.morta_exec.specs.Puts.{HasPut}
-use Rattle.morta_exec.specs.EntryRun.{Stopped}
-use Rattle.morta_exec.specs.MainRun.{Between, HasRun, to_come}
+use Rattle.morta_exec.specs.EntryRun.{HasStopped}
+use Rattle.morta_exec.specs.MainRun.{Between, IsOver, to_come}
+use Rattle.morta_exec.proofs.Growing.{extends_same, extends_chain}
 use Rattle.morta_exec.proofs.Stopping.{stops_sending}
 
 -- what is left of a run where a frame stands prints what was printed
@@ -61,43 +61,47 @@ ends_by es listed None all count closed = all ∙ append-nil listed ∙ none lis
   none (x ∷ xs) h = absurd (omega (arith, h))
 ends_by es listed (Some i) all count closed = (count ∙ sym (ap length (all ∙ append-nil listed)), λ h. closed)
 
+-- a statement's run only adds to what is printed
+abbrev pub Grows : Type 0
+Grows = (s : Stmt) (n : ℕ) (m : Memory) → Extends m.printed (run s n m).store.printed
+
 -- a run that came to this stop is behind the intervals of its log, and what is printed there is printed in the end
 pub at_stop : {M : Type 0} (promise : Promise M) (left later : Ran → Course → Type 0) (b : Began M) (now : M) (m r : Memory) (log : LogView) (stop : Stop)
-    → Prints later → (w : Between promise left b now m log) → Stops later w.rest b.from.turns stop r
-    → ComesBehind (entries_in b) (run_in b).store log.intervals r × Extends r.printed (run_in b).store.printed
-at_stop promise left later b now m r log (stop.Region number low high) prints w at =
+    → Grows → Prints later → (w : Between promise left b now m log) → Stops later w.rest b.from.turns stop r
+    → ComesBehind (all_entries b) (whole_run b).store log.intervals r × Extends r.printed (whole_run b).store.printed
+at_stop promise left later b now m r log (stop.Region number low high) grows prints w at =
     let n = b.from.turns in
     let e = numbered b.image.regions n (length log.entries + 1) (opened number at.looped low high r) in
-    let comes : entries_in b ≡ log.entries ++ (e ∷ to_come b (length log.entries + 1 + 1) at.rest) =
+    let comes : all_entries b ≡ log.entries ++ (e ∷ to_come b (length log.entries + 1 + 1) at.rest) =
     w.comes ∙ ap (λ (c : Course). log.entries ++ to_come b (length log.entries + 1) c) at.whole in
-    let named : slice_get (entries_in b) (begun log.intervals) ≡ Some e =
+    let named : slice_get (all_entries b) (begun log.intervals) ≡ Some e =
     (λ i. slice_get (comes i) (w.stands.begun i)) ∙ next_at log.entries e _ in
-    let whole : at.rest.ran ≡ run_in b = sym (ap (λ (c : Course). c.ran) at.whole) ∙ w.ran in (
+    let whole : at.rest.ran ≡ whole_run b = sym (ap (λ (c : Course). c.ran) at.whole) ∙ w.ran in (
       before_entry e w.closed named,
-      printed_kept.order.chain r (run (For at.looped) n r).store (run_in b).store
-          (run_kept MorePrinted printed_kept (For at.looped) n r)
+      extends_chain r.printed (run (For at.looped) n r).store.printed (whole_run b).store.printed
+          (grows (For at.looped) n r)
           (subst (λ (x : Ran). Extends (run (For at.looped) n r).store.printed x.store.printed) whole (prints (run (For at.looped) n r) at.rest at.goes_on)),
     )
-at_stop promise left later b now m r log (stop.Ended end) prints w at =
-    let es = entries_in b in
+at_stop promise left later b now m r log (stop.Ended end) grows prints w at =
+    let es = all_entries b in
     let none : es ≡ log.entries ++ [] = w.comes ∙ ap (λ (c : Course). log.entries ++ to_come b (length log.entries + 1) c) at in
-    let here : (run_in b).store ≡ r = ap (λ (x : Ran). x.store) (sym w.ran ∙ ap (λ (c : Course). c.ran) at) in
+    let here : (whole_run b).store ≡ r = ap (λ (x : Ran). x.store) (sym w.ran ∙ ap (λ (c : Course). c.ran) at) in
     let all = ends_by es log.entries (last_in log.intervals) none w.stands.begun w.closed in (
-      subst (λ (x : Memory). ComesBehind es (run_in b).store log.intervals x) here (at_end all),
-      subst (λ (x : Memory). Extends x.printed (run_in b).store.printed) here (printed_kept.order.same (run_in b).store),
+      subst (λ (x : Memory). ComesBehind es (whole_run b).store log.intervals x) here (at_end all),
+      subst (λ (x : Memory). Extends x.printed (whole_run b).store.printed) here (extends_same (whole_run b).store.printed),
     )
 
 -- the sink broke off at the numbers of the main statements
 pub stopped_main : {M : Type 0} (promise : Promise M) (left later : Ran → Course → Type 0) (b : Began M) (now : M) (m r : Memory) (log : LogView) (new : Sent) (stop : Stop) (fault : SendFault)
-    → Prints later → (w : Between promise left b now m log) → Stops later w.rest b.from.turns stop r
+    → Grows → Prints later → (w : Between promise left b now m log) → Stops later w.rest b.from.turns stop r
     → BreaksOff new (number_lines r.printed) fault → new.faults_before ≤ new.faults
-    → Stopped promise b log new (fault_of fault)
-stopped_main promise left later b now m r log new stop fault prints w at broken later_faults =
-    let here = at_stop promise left later b now m r log stop prints w at in
+    → HasStopped promise b log new (drive_fault fault)
+stopped_main promise left later b now m r log new stop fault grows prints w at broken later_faults =
+    let here = at_stop promise left later b now m r log stop grows prints w at in
     record {
       log_stands = w.stands.so_far;
       later = later_faults;
-      stops = stops_sending (entries_in b) (run_in b).store r log.intervals new fault (record { few = w.behind.few; comes = here.0 }) broken here.1;
+      stops = stops_sending (all_entries b) (whole_run b).store r log.intervals new fault (record { few = w.behind.few; comes = here.0 }) broken here.1;
     }
 
 -- the lines of the first numbers are a front of all lines
@@ -106,7 +110,7 @@ front_put sent xs ys h put = (number_lines xs, number_lines h.0, ap number_lines
 
 -- memory ran out in the main statements
 pub stopped_memory_main : {M : Type 0} (promise : Promise M) (left : Ran → Course → Type 0) (b : Began M) (now : M) (m : Memory) (log : LogView) (sent : Sent)
-    → Between promise left b now m log → HasPut sent m.printed → Stopped promise b log sent NoMemory
+    → Between promise left b now m log → HasPut sent m.printed → HasStopped promise b log sent NoMemory
 stopped_memory_main promise left b now m log sent w put = record {
   log_stands = w.stands.so_far;
   later = omega (arith, put.kept);
@@ -121,11 +125,11 @@ stopped_memory_main promise left b now m log sent w put = record {
 
 -- the run is at its end with the main statements
 pub run_ended : {M : Type 0} (promise : Promise M) (left later : Ran → Course → Type 0) (b : Began M) (now : M) (m r : Memory) (log : LogView) (end : Outcome)
-    → (w : Between promise left b now m log) → Stops later w.rest b.from.turns (stop.Ended end) r → HasRun promise b log r end
+    → (w : Between promise left b now m log) → Stops later w.rest b.from.turns (stop.Ended end) r → IsOver promise b log r end
 run_ended promise left later b now m r log end w at = record {
   reaches = sym w.ran ∙ ap (λ (c : Course). c.ran) at;
   log_stands = w.stands.so_far;
-  whole = ends_by (entries_in b) log.entries (last_in log.intervals)
+  whole = ends_by (all_entries b) log.entries (last_in log.intervals)
       (w.comes ∙ ap (λ (c : Course). log.entries ++ to_come b (length log.entries + 1) c) at) w.stands.begun w.closed;
   few = w.behind.few;
 }

@@ -1,6 +1,7 @@
 -- Lists that grow at their end.
-use Rattle.std.proofs.Common.{◌≡◌, ℕ, zero, suc, List, [], ◌∷◌, ◌++◌, length, take, refl, sym, ◌∙◌, ap, subst, append_assoc, None, Some, slice_get}
+use Rattle.std.proofs.Common.{◌≡◌, ℕ, ℤ, zero, suc, List, [], ◌∷◌, ◌++◌, length, take, refl, sym, ◌∙◌, ap, subst, append_assoc, None, Some, slice_get}
 use Rattle.std.proofs.lemmas.List.{append-nil}
+use Rattle.nona_tree.specs.Memory.{Extends}
 use Rattle.morta_task.specs.Legal.{EachFrom, last_from, last_in}
 
 -- one more has the property, by all of those before
@@ -26,6 +27,13 @@ take_length (suc n) (x ∷ xs) = ap (λ ys. x ∷ ys) (take_length n xs)
 
 pub front_is : {A : Type 0} (xs front : List A) (n : ℕ) → front ≡ take n xs → front ≡ take (length front) xs
 front_is xs front n is = is ∙ sym (take_length n xs) ∙ ap (λ ys. take (length ys) xs) (sym is)
+
+-- what is printed stays printed
+pub extends_same : (xs : List ℤ) → Extends xs xs
+extends_same xs = ([], sym (append-nil xs))
+
+pub extends_chain : (xs ys zs : List ℤ) → Extends xs ys → Extends ys zs → Extends xs zs
+extends_chain xs ys zs h k = (h.0 ++ k.0, k.1 ∙ ap (λ l. l ++ k.0) h.1 ∙ append_assoc xs h.0 k.0)
 
 none_some : {A : Type 0} (x : A) → None ≡ Some x → ⊥
 none_some x e = cc

@@ -11,7 +11,6 @@ use Rattle.nona_tree.specs.declared.trees.Stmt.{For}
 use Rattle.nona_tree.specs.Memory.{Memory, Extends}
 use Rattle.nona_tree.specs.Value.{value_of}
 use Rattle.nona_tree.specs.Run.{Ran, run, done}
-use Rattle.nona_tree.proofs.Keeps.{printed_kept}
 use Rattle.nona_tree.specs.Numbers.{IsI64}
 use Rattle.nona_tree.specs.Scope.{IsScoped}
 use Rattle.nona_tree.specs.Entries.{Opened, regions_all, count_all, IsEntryOf}
@@ -26,11 +25,11 @@ use Rattle.morta_task.specs.Entries.{EntryView, entered, IsEntered}
 use Rattle.morta_task.specs.LogView.{LogView}
 use Rattle.morta_task.specs.Promise.{Promise}
 use Rattle.morta_task.specs.Legal.{begun, EndsAll}
-use Rattle.morta_exec.specs.Began.{Began, entries_in, run_in}
+use Rattle.morta_exec.specs.Began.{Began, all_entries, whole_run}
 use Rattle.morta_exec.specs.Places.{most, ClosedBy, ComesBehind, after_interval}
 use Rattle.morta_exec.specs.EntryRun.{whole_loop, HasEnded}
-use Rattle.morta_exec.specs.MainRun.{Between, AtEntry, HasRun, IsOpened, to_come}
-use Rattle.morta_exec.proofs.Growing.{some_same, front_is}
+use Rattle.morta_exec.specs.MainRun.{Between, AtEntry, IsOver, IsOpened, to_come}
+use Rattle.morta_exec.proofs.Growing.{some_same, front_is, extends_same}
 use Rattle.morta_exec.proofs.Loops.{loop_sizes}
 use Rattle.morta_exec.proofs.Coming.{Prints, opening, numbered_is, next_at}
 
@@ -64,14 +63,14 @@ at_entry promise left later b now m r log number low high o e is prints w at ope
     let same : at.looped ≡ code.looped = some_same at.looped code.looped (sym there.2 ∙ is_loop) in
     let later_entries = to_come b (length log.entries + 1 + 1) at.rest in
     let here = entered (opening (length log.entries + 1) number low high) code.looped code.plan n r in
-    let comes : entries_in b ≡ log.entries ++ (here ∷ later_entries) =
+    let comes : all_entries b ≡ log.entries ++ (here ∷ later_entries) =
     w.comes ∙ ap (λ (c : Course). log.entries ++ to_come b (length log.entries + 1) c) at.whole
     ∙ ap (λ x. log.entries ++ (x ∷ later_entries)) (numbered_is b.image.regions n (length log.entries + 1) number at.looped low high r code found same) in
     let at_number : length log.entries ≡ length log.entries + 1 - 1 = omega arith in
     let goes_on : later (whole_loop here) at.rest =
     subst (λ (x : Ran). later x at.rest) (loop_run (opening (length log.entries + 1) number low high) code n r)
     (subst (λ (l : Loop). later (run (For l) n r) at.rest) same at.goes_on) in
-    let ran : at.rest.ran ≡ run_in b = sym (ap (λ (c : Course). c.ran) at.whole) ∙ w.ran in
+    let ran : at.rest.ran ≡ whole_run b = sym (ap (λ (c : Course). c.ran) at.whole) ∙ w.ran in
     subst (AtEntry promise later b now log) (sym is_entry) (record {
       stands = w.stands;
       closed = w.closed;
@@ -142,8 +141,8 @@ pub between_on : {M : Type 0} (promise : Promise M) (left : Ran → Course → T
     → AtEntry promise left b old log e → HasEnded promise b now e new store end → end ≡ outcome.Done → length new.intervals ≤ most
     → Between promise left b now store new
 between_on promise left b old now log new e store end a h is_done few =
-    let es = entries_in b in
-    let last = (run_in b).store in
+    let es = all_entries b in
+    let last = (whole_run b).store in
     let whole : whole_loop e ≡ done store = h.reaches ∙ ap (λ (o : Outcome). let r : Ran = record { store = store; end = o } in r) is_done in
     let count : length new.entries ≡ length log.entries + 1 = h.counted ∙ a.number in
     let listed : new.entries ≡ log.entries ++ e ∷ [] = listed_on es log.entries new.entries _ e (begun new.intervals) a.comes h.stands.so_far.legal.entries count in
@@ -162,7 +161,7 @@ between_on promise left b old now log new e store end a h is_done few =
         few = few;
         comes = subst (λ (m : Memory). ComesBehind es last new.intervals m) (sym h.state) (after_interval h.interval e h.is_last named);
       };
-      from_here = printed_kept.order.same store;
+      from_here = extends_same store.printed;
       printed = subst (λ (m : Memory). Extends m.printed last.printed) (store_is e store end h.reaches) a.on.leads;
     }
 
@@ -170,9 +169,9 @@ between_on promise left b old now log new e store end a h is_done few =
 pub run_over : {M : Type 0} (promise : Promise M) (left : Ran → Course → Type 0) (b : Began M) (old now : M) (log new : LogView) (e : EntryView) (store last : Memory) (end : Outcome)
     → (a : AtEntry promise left b old log e) → HasEnded promise b now e new store end
     → (left (record { store = store; end = end }) a.rest → a.rest ≡ ended last end) → length new.intervals ≤ most
-    → HasRun promise b new last end
+    → IsOver promise b new last end
 run_over promise left b old now log new e store last end a h leaves few =
-    let es = entries_in b in
+    let es = all_entries b in
     let at_end : a.rest ≡ ended last end = leaves (subst (λ (r : Ran). left r a.rest) h.reaches a.goes_on) in
     let all : es ≡ log.entries ++ (e ∷ []) = a.comes ∙ ap (λ (c : Course). log.entries ++ (e ∷ to_come b (length log.entries + 1 + 1) c)) at_end in
     let count : length es ≡ length log.entries + 1 = ap length all ∙ length-append log.entries (e ∷ []) in

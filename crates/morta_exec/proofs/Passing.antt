@@ -1,5 +1,5 @@
 -- What an interval of an entry hands on.
-use Rattle.std.proofs.Common.{◌≡◌, ℕ, ◌+◌, ◌-◌, ◌<◌, ◌≤◌, ℤ, List, [], ◌∷◌, length, take, refl, sym, ◌∙◌, ap, subst, arith, inl, length-append, None, Some, slice_get}
+use Rattle.std.proofs.Common.{◌≡◌, ◌+◌, ◌-◌, ◌<◌, ◌≤◌, ℤ, List, [], ◌∷◌, length, take, refl, sym, ◌∙◌, ap, subst, arith, inl, length-append, None, Some, slice_get}
 use Rattle.std.specs.declared.option.Option.{Option}
 use Rattle.std.proofs.lemmas.List.{take_at}
 use Rattle.fate_io.specs.Sending.{Sent, BreaksOff}
@@ -7,7 +7,6 @@ use Rattle.fate_io.specs.declared.sending.SendFault.{SendFault}
 use Rattle.nona_tree.specs.declared.outcomes.Outcome.{Outcome}
 use Rattle.nona_tree.specs.Memory.{Memory, Extends}
 use Rattle.nona_tree.specs.Run.{Ran, done}
-use Rattle.nona_tree.proofs.Keeps.{printed_kept}
 use Rattle.morta_task.specs.declared.intervals.Interval.{Interval}
 use Rattle.morta_task.specs.declared.intervals.Handoff.{Handoff}
 use Rattle.morta_task.specs.Entries.{EntryView, IsWithin, before, state_after}
@@ -16,13 +15,13 @@ use Rattle.morta_task.specs.Promise.{Promise}
 use Rattle.morta_task.specs.Running.{IsHandoff, limit_of}
 use Rattle.morta_task.specs.Legal.{ComesNext, last_in}
 use Rattle.morta_text.specs.Texts.{number_lines}
-use Rattle.morta_exec.specs.Began.{Began, entries_in, run_in}
+use Rattle.morta_exec.specs.Began.{Began, all_entries, whole_run}
 use Rattle.morta_exec.specs.Places.{most, ComesBehind, after_interval}
-use Rattle.morta_exec.specs.Faults.{fault_of}
+use Rattle.morta_exec.specs.Faults.{drive_fault}
 use Rattle.morta_exec.specs.Puts.{HasPut}
-use Rattle.morta_exec.specs.Standing.{Stands, HasRunInterval}
-use Rattle.morta_exec.specs.EntryRun.{whole_loop, EndsWith, GoesOnAt, Stopped, IsOn}
-use Rattle.morta_exec.proofs.Growing.{last_more}
+use Rattle.morta_exec.specs.Standing.{StandsBetween, HasRunInterval}
+use Rattle.morta_exec.specs.EntryRun.{whole_loop, EndsWith, GoesOnAt, HasStopped, IsOn}
+use Rattle.morta_exec.proofs.Growing.{last_more, extends_chain}
 use Rattle.morta_exec.proofs.Loops.{after_prints, loop_prints}
 use Rattle.morta_exec.proofs.Ending.{cut_done}
 use Rattle.morta_exec.proofs.Stopping.{stops_sending}
@@ -55,9 +54,9 @@ shown_front xs ys sent shown same on put = (
 
 -- what is printed behind an interval is printed in the end
 leads_on : {M : Type 0} (b : Began M) (e : EntryView) (from : ℤ) (old new : LogView) (k : Handoff) (i : Interval)
-    → IsOn b e → HasRunInterval e from old new k i → Extends k.store.printed (run_in b).store.printed
+    → IsOn b e → HasRunInterval e from old new k i → Extends k.store.printed (whole_run b).store.printed
 leads_on b e from old new k i on t =
-    printed_kept.order.chain k.store (whole_loop e).store (run_in b).store
+    extends_chain k.store.printed (whole_loop e).store.printed (whole_run b).store.printed
     (subst (λ (r : Memory). Extends r.printed (whole_loop e).store.printed) (sym t.hands_on.store) (loop_prints e (before e i.done.to) on.of_run.entered t.done.within.1))
     on.leads
 
@@ -73,30 +72,30 @@ added_one e from old new k i t = ap length t.added ∙ length-append old.interva
 
 -- the sink broke off at the lines of an interval
 pub stopped_interval : {M : Type 0} (promise : Promise M) (b : Began M) (now : M) (e : EntryView) (from : ℤ) (old new : LogView) (k : Handoff) (i : Interval) (sent : Sent) (fault : SendFault)
-    → IsOn b e → Stands promise b now new → HasRunInterval e from old new k i → length old.intervals < most
+    → IsOn b e → StandsBetween promise b now new → HasRunInterval e from old new k i → length old.intervals < most
     → BreaksOff sent (number_lines k.store.printed) fault → sent.faults_before ≤ sent.faults
-    → Stopped promise b new sent (fault_of fault)
+    → HasStopped promise b new sent (drive_fault fault)
 stopped_interval promise b now e from old new k i sent fault on stands t room broken later = record {
   log_stands = stands.so_far;
   later = later;
-  stops = stops_sending (entries_in b) (run_in b).store k.store new.intervals sent fault
+  stops = stops_sending (all_entries b) (whole_run b).store k.store new.intervals sent fault
       (record {
         few = omega (arith, room, added_one e from old new k i t);
-        comes = behind_interval (entries_in b) (run_in b).store e from old new k i on.of_run.named t;
+        comes = behind_interval (all_entries b) (whole_run b).store e from old new k i on.of_run.named t;
       })
       broken (leads_on b e from old new k i on t);
 }
 
 -- behind an interval the entry goes on, or its loop has ended
 pub goes_on_at : {M : Type 0} (promise : Promise M) (b : Began M) (now : M) (e : EntryView) (from : ℤ) (old new : LogView) (k : Handoff) (i : Interval) (end : Option Outcome)
-    → slice_get (entries_in b) (e.number - 1) ≡ Some e → Stands promise b now new → HasRunInterval e from old new k i → EndsWith e i end → GoesOnAt promise b now e new k end
+    → slice_get (all_entries b) (e.number - 1) ≡ Some e → StandsBetween promise b now new → HasRunInterval e from old new k i → EndsWith e i end → GoesOnAt promise b now e new k end
 goes_on_at promise b now e from old new k i None named stands t (short, on) = record {
   stands = stands;
   state = record {
     within = subst (IsWithin e) (sym t.hands_on.next) t.done.within;
     state = ap (λ z. state_after e (before e z)) t.hands_on.next ∙ here ∙ ap (λ (m : Memory). done m) (sym t.hands_on.store);
   };
-  next = subst (λ last. ComesNext (entries_in b) last e k.next) (sym (last_run e from old new k i t)) (inl (record {
+  next = subst (λ last. ComesNext (all_entries b) last e k.next) (sym (last_run e from old new k i t)) (inl (record {
     same = t.number;
     joins = t.hands_on.next;
     short = short;
@@ -117,7 +116,7 @@ goes_on_at promise b now e from old new k i (Some end) named stands t (reaches, 
   state = t.hands_on.store;
   closed = λ h. record {
     entry = e;
-    named = ap (λ n. slice_get (entries_in b) (n - 1)) t.number ∙ named;
+    named = ap (λ n. slice_get (all_entries b) (n - 1)) t.number ∙ named;
     whole = all h;
     goes_on = h;
   };

@@ -2,15 +2,15 @@
 use Rattle.std.proofs.Common.{◌≡◌, ℕ, ℤ, List, [], ◌∷◌, ◌++◌, refl, sym, ap, subst, arith, zero-add, None, Some}
 use Rattle.std.specs.declared.option.Option.{Option}
 use Rattle.std.specs.Io.KnownBytes.{Appends}
+use Rattle.std.specs.Prelude.{All}
 use Rattle.std.specs.List.{AllByRecursion}
 use Rattle.std.proofs.KnownBytes.{Appends-nil}
 use mathlib.Core.Path.{fun_ext}
 use Rattle.fate_io.specs.Putting.{AppendsFront}
 use Rattle.nona_tree.specs.Memory.{Memory, Extends}
 use Rattle.nona_tree.specs.Run.{Ran, done}
-use Rattle.nona_tree.specs.Entries.{Opened, entries_all}
-use Rattle.nona_tree.proofs.Keeps.{MorePrinted, printed_kept}
-use Rattle.nona_tree.proofs.Regions.{entries_of_regions}
+use Rattle.nona_tree.specs.Entries.{Opened, entries_all, regions_all, IsEntryOf}
+use Rattle.nona_tree.proofs.Keeps.{MorePrinted}
 use Rattle.nona_main.specs.Course.{Course, course_of}
 use Rattle.morta_task.specs.declared.regions.RegionCode.{RegionCode}
 use Rattle.morta_task.specs.ImageView.{is_region_of}
@@ -19,13 +19,14 @@ use Rattle.morta_task.specs.LogView.{LogView, empty_log}
 use Rattle.morta_task.specs.Promise.{Promise, StandsOnly}
 use Rattle.morta_exec.specs.declared.fault.DriveFault.TheVariants.{NoMemory}
 use Rattle.morta_text.specs.Texts.{number_lines}
-use Rattle.morta_exec.specs.Began.{Began, entries_in, run_in}
+use Rattle.morta_exec.specs.Began.{Began, all_entries, whole_run}
 use Rattle.morta_exec.specs.Log.{AreTold}
-use Rattle.morta_exec.specs.Places.{ComesBehind, IsBehind, before_entry, at_end}
+use Rattle.morta_exec.specs.Places.{IsBehind, before_entry, at_end}
 use Rattle.morta_exec.specs.Drive.{StopsShort}
-use Rattle.morta_exec.specs.Standing.{AreLeft, Stands}
+use Rattle.morta_exec.specs.Standing.{AreLeft, StandsBetween}
 use Rattle.morta_exec.specs.Puts.{HasPut}
 use Rattle.morta_exec.specs.MainRun.{Between}
+use Rattle.morta_exec.proofs.Growing.{extends_same}
 use Rattle.morta_exec.proofs.Asking.{keeps_same}
 use Rattle.morta_exec.proofs.Printing.{entries_print}
 
@@ -51,7 +52,7 @@ first_place : (regions : List RegionCode) (n : ℕ) (end : Memory) (os : List Op
 first_place regions n end [] prints = record {
   place = end;
   behind = record { few = omega arith; comes = at_end refl };
-  printed = printed_kept.order.same end;
+  printed = extends_same end.printed;
 }
 first_place regions n end (o ∷ os) prints = record {
   place = o.store;
@@ -59,15 +60,15 @@ first_place regions n end (o ∷ os) prints = record {
   printed = prints.0;
 }
 
-first_in : {M : Type 0} (b : Began M) → First (entries_in b) (run_in b).store
-first_in b = first_place b.image.regions b.from.turns (run_in b).store (entries_all (is_region_of b.image) 1 b.image.main b.from.turns b.from.store) (entries_print (is_region_of b.image) b.image.main 1 b.from.turns b.from.store)
+first_in : {M : Type 0} (b : Began M) → First (all_entries b) (whole_run b).store
+first_in b = first_place b.image.regions b.from.turns (whole_run b).store (entries_all (is_region_of b.image) 1 b.image.main b.from.turns b.from.store) (entries_print (is_region_of b.image) b.image.main 1 b.from.turns b.from.store)
 
 -- a run that stops before its first interval stops there
 pub stops_before : {M : Type 0} (b : Began M) (log : LogView) (w : Option (List ℕ)) (f : ℕ)
-    → log ≡ empty_log → StopsShort (entries_in b) (run_in b).store log.intervals (record { before = w; after = w; faults_before = f; faults = f }) NoMemory
+    → log ≡ empty_log → StopsShort (all_entries b) (whole_run b).store log.intervals (record { before = w; after = w; faults_before = f; faults = f }) NoMemory
 stops_before b log w f empty =
     let first = first_in b in
-    subst (λ (l : LogView). StopsShort (entries_in b) (run_in b).store l.intervals (record { before = w; after = w; faults_before = f; faults = f }) NoMemory) (sym empty) (record {
+    subst (λ (l : LogView). StopsShort (all_entries b) (whole_run b).store l.intervals (record { before = w; after = w; faults_before = f; faults = f }) NoMemory) (sym empty) (record {
       place = first.place;
       behind = first.behind;
       put = nothing_put w (number_lines first.place.printed);
@@ -75,7 +76,7 @@ stops_before b log w f empty =
       cause = tt;
     })
 
-stands_first : {M : Type 0} (promise : Promise M) (b : Began M) → StandsOnly promise → promise.stands_for b.first empty_log → Stands promise b b.first empty_log
+stands_first : {M : Type 0} (promise : Promise M) (b : Began M) → StandsOnly promise → promise.stands_for b.first empty_log → StandsBetween promise b b.first empty_log
 stands_first promise b only stands = record {
   so_far = record {
     legal = record { entries = refl; intervals = tt };
@@ -94,8 +95,9 @@ stands_first promise b only stands = record {
 pub between_first : {M : Type 0} (promise : Promise M) (left : Ran → Course → Type 0) (b : Began M) (log : LogView)
     → StandsOnly promise → log ≡ empty_log → promise.stands_for b.first empty_log → b.from.store.printed ≡ []
     → left (done b.from.store) (course_of (is_region_of b.image) 1 b.image.main b.from.turns b.from.store)
+    → All (IsEntryOf (regions_all (is_region_of b.image) b.image.main)) (entries_all (is_region_of b.image) 1 b.image.main b.from.turns b.from.store)
     → Between promise left b b.first b.from.store log
-between_first promise left b log only empty stands printed is_left =
+between_first promise left b log only empty stands printed is_left regions =
     let first = first_in b in
     subst (λ (l : LogView). Between promise left b b.first b.from.store l) (sym empty) (record {
       stands = stands_first promise b only stands;
@@ -104,7 +106,7 @@ between_first promise left b log only empty stands printed is_left =
       left_is = is_left;
       ran = refl;
       comes = refl;
-      are_regions = entries_of_regions (is_region_of b.image) b.image.main b.from.turns b.from.store;
+      are_regions = regions;
       place = first.place;
       behind = first.behind;
       from_here = (first.place.printed, ap (λ (xs : List ℤ). xs ++ first.place.printed) (sym printed));

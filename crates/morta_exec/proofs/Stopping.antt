@@ -11,7 +11,6 @@ use Rattle.fate_io.specs.declared.sending.SendFault.{SendFault}
 use Rattle.fate_io.specs.declared.sending.SendFault.TheVariants as sending
 use Rattle.nona_tree.specs.Memory.{Memory, Extends}
 use Rattle.nona_tree.specs.Run.{Ran}
-use Rattle.nona_tree.proofs.Keeps.{printed_kept}
 use Rattle.morta_task.specs.declared.intervals.Interval.{Interval}
 use Rattle.morta_task.specs.declared.intervals.Handoff.{Handoff}
 use Rattle.morta_task.specs.Entries.{EntryView, before, state_after}
@@ -22,14 +21,15 @@ use Rattle.morta_task.specs.Running.{IsHandoff}
 use Rattle.morta_exec.specs.declared.fault.DriveFault.{DriveFault}
 use Rattle.morta_exec.specs.declared.fault.DriveFault.TheVariants.{LogFull, NoMemory}
 use Rattle.morta_text.specs.Texts.{number_lines}
-use Rattle.morta_exec.specs.Began.{Began, entries_in, run_in}
+use Rattle.morta_exec.specs.Began.{Began, all_entries, whole_run}
 use Rattle.morta_exec.specs.Places.{most, ClosedBy, ComesBehind, IsBehind, StartsNext, after_interval, before_entry}
 use Rattle.morta_exec.specs.Drive.{StopsShort, HasCauseOf}
-use Rattle.morta_exec.specs.Faults.{fault_of}
+use Rattle.morta_exec.specs.Faults.{drive_fault}
 use Rattle.morta_exec.specs.Puts.{HasPut}
 use Rattle.morta_exec.specs.declared.start.Pending.{Pending}
-use Rattle.morta_exec.specs.Standing.{StandsAt}
-use Rattle.morta_exec.specs.EntryRun.{whole_loop, Stopped, IsOn}
+use Rattle.morta_exec.specs.Standing.{StandsBefore}
+use Rattle.morta_exec.specs.EntryRun.{whole_loop, HasStopped, IsOn}
+use Rattle.morta_exec.proofs.Growing.{extends_chain}
 use Rattle.morta_exec.proofs.Loops.{before_low, loop_prints}
 
 -- what a fault that is handed on has
@@ -59,20 +59,20 @@ behind_by es end is (Some i) e from is_last (inr next) named =
     (before_entry e (subst (ClosedBy es) (sym is_last) next.closed) (ap (slice_get es) (sym later) ∙ named))
 
 -- what is printed at the place of a handoff is printed in the end
-handoff_prints : {M : Type 0} (b : Began M) (e : EntryView) (h : Handoff) → IsOn b e → IsHandoff e h → Extends h.store.printed (run_in b).store.printed
+handoff_prints : {M : Type 0} (b : Began M) (e : EntryView) (h : Handoff) → IsOn b e → IsHandoff e h → Extends h.store.printed (whole_run b).store.printed
 handoff_prints b e h on state =
-    printed_kept.order.chain h.store (whole_loop e).store (run_in b).store
+    extends_chain h.store.printed (whole_loop e).store.printed (whole_run b).store.printed
     (subst (λ (r : Ran). Extends r.store.printed (whole_loop e).store.printed) state.state (loop_prints e (before e h.next) on.of_run.entered state.within.1))
     on.leads
 
 -- a run stops where an interval would come next, of which all before was put
 stops_at : {M : Type 0} (promise : Promise M) (b : Began M) (now : M) (e : EntryView) (log : LogView) (p : Pending) (sent : Sent) (fault : DriveFault)
-    → IsOn b e → StandsAt promise b now e log p → HasPut sent p.handoff.store.printed → length log.intervals ≤ most
-    → HasCauseOf fault (entries_in b) log.intervals p.handoff.store sent
-    → StopsShort (entries_in b) (run_in b).store log.intervals sent fault
+    → IsOn b e → StandsBefore promise b now e log p → HasPut sent p.handoff.store.printed → length log.intervals ≤ most
+    → HasCauseOf fault (all_entries b) log.intervals p.handoff.store sent
+    → StopsShort (all_entries b) (whole_run b).store log.intervals sent fault
 stops_at promise b now e log p sent fault on s put few cause =
-    let es = entries_in b in
-    let end = (run_in b).store in
+    let es = all_entries b in
+    let end = (whole_run b).store in
     record {
       place = p.handoff.store;
       behind = record {
@@ -87,8 +87,8 @@ stops_at promise b now e log p sent fault on s put few cause =
 
 -- for want of memory
 pub stopped_memory : {M : Type 0} (promise : Promise M) (b : Began M) (now : M) (e : EntryView) (log : LogView) (p : Pending) (sent : Sent)
-    → IsOn b e → StandsAt promise b now e log p → HasPut sent p.handoff.store.printed → length log.intervals < most
-    → Stopped promise b log sent NoMemory
+    → IsOn b e → StandsBefore promise b now e log p → HasPut sent p.handoff.store.printed → length log.intervals < most
+    → HasStopped promise b log sent NoMemory
 stopped_memory promise b now e log p sent on s put room = record {
   log_stands = s.stands.so_far;
   later = omega (arith, put.kept);
@@ -97,10 +97,10 @@ stopped_memory promise b now e log p sent on s put room = record {
 
 -- as the log is full
 pub stopped_full : {M : Type 0} (promise : Promise M) (b : Began M) (now : M) (e : EntryView) (log : LogView) (p : Pending) (sent : Sent)
-    → IsOn b e → StandsAt promise b now e log p → HasPut sent p.handoff.store.printed → length log.intervals ≡ most
-    → Stopped promise b log sent LogFull
+    → IsOn b e → StandsBefore promise b now e log p → HasPut sent p.handoff.store.printed → length log.intervals ≡ most
+    → HasStopped promise b log sent LogFull
 stopped_full promise b now e log p sent on s put full =
-    let next : StartsNext (entries_in b) log.intervals p.handoff.store = record {
+    let next : StartsNext (all_entries b) log.intervals p.handoff.store = record {
       entry = e;
       named = on.of_run.named;
       from = p.handoff.next;
@@ -115,7 +115,7 @@ stopped_full promise b now e log p sent on s put full =
 
 -- a place behind the log's intervals whose numbers were broken off by a fault of the sink
 pub stops_sending : (es : List EntryView) (end place : Memory) (is : List Interval) (sent : Sent) (fault : SendFault)
-    → IsBehind es end is place → BreaksOff sent (number_lines place.printed) fault → Extends place.printed end.printed → StopsShort es end is sent (fault_of fault)
+    → IsBehind es end is place → BreaksOff sent (number_lines place.printed) fault → Extends place.printed end.printed → StopsShort es end is sent (drive_fault fault)
 stops_sending es end place is sent sending.WriteFailed behind broken printed =
     record { place = place; behind = behind; put = broken.0; printed = printed; cause = broken.1 }
 stops_sending es end place is sent sending.NoMemory behind broken printed =

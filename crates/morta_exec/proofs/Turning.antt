@@ -12,9 +12,9 @@ use Rattle.morta_task.specs.LogView.{LogView, with_interval}
 use Rattle.morta_task.specs.Promise.{Promise, Keeps, StandsOnly}
 use Rattle.morta_task.specs.Running.{MovesOn, IsDone, chosen, limit_of, interval_of}
 use Rattle.morta_task.specs.Legal.{begun, entry_number, last_in, ComesNext}
-use Rattle.morta_exec.specs.Began.{Began, entries_in}
+use Rattle.morta_exec.specs.Began.{Began, all_entries}
 use Rattle.morta_exec.specs.Log.{AreTold}
-use Rattle.morta_exec.specs.Standing.{AreLeft, Stands, KeptFor}
+use Rattle.morta_exec.specs.Standing.{AreLeft, StandsBetween, KeptFor}
 use Rattle.morta_exec.proofs.Growing.{each_more, last_more, front_is, take_next}
 use Rattle.morta_exec.proofs.Asking.{keeps_both}
 
@@ -83,13 +83,13 @@ log_with es is = record { entries = es; intervals = is }
 
 -- the log is as it must be with the interval too
 pub stands_on : {M : Type 0} (promise : Promise M) (b : Began M) (old asking running telling : M) (log : LogView) (e : EntryView) (from : ℤ) (limit : ℕ) (ask : Ask) (config : Config) (done : Ran) (kept : Option EntryView)
-    → StandsOnly promise → Stands promise b old log → Called promise e from limit log old asking running telling ask config done
-    → slice_get (entries_in b) (e.number - 1) ≡ Some e → KeptFor kept (length log.entries) e
-    → ComesNext (entries_in b) (last_in log.intervals) e from → config ≡ chosen e ask.config → limit ≡ limit_of e from ask.until
+    → StandsOnly promise → StandsBetween promise b old log → Called promise e from limit log old asking running telling ask config done
+    → slice_get (all_entries b) (e.number - 1) ≡ Some e → KeptFor kept (length log.entries) e
+    → ComesNext (all_entries b) (last_in log.intervals) e from → config ≡ chosen e ask.config → limit ≡ limit_of e from ask.until
     → promise.stands_for telling (with_interval log e (interval_of e ask config from done))
-    → Stands promise b telling (with_interval log e (interval_of e ask config from done))
+    → StandsBetween promise b telling (with_interval log e (interval_of e ask config from done))
 stands_on promise b old asking running telling log e from limit ask config done kept only s c named fits next is_config is_limit stands =
-    let es = entries_in b in
+    let es = all_entries b in
     let first = b.first in
     let is = log.intervals in
     let i = interval_of e ask config from done in

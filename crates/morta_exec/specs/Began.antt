@@ -29,9 +29,9 @@ began s = record {
 }
 
 -- the entries of the run
-abbrev pub entries_in : {M : Type 0} → Began M → List EntryView
-entries_in b = entries_from b.image b.from
+abbrev pub all_entries : {M : Type 0} → Began M → List EntryView
+all_entries b = entries_from b.image b.from
 
 -- the whole run
-abbrev pub run_in : {M : Type 0} → Began M → Ran
-run_in b = run_from b.image b.from
+abbrev pub whole_run : {M : Type 0} → Began M → Ran
+whole_run b = run_from b.image b.from

@@ -14,10 +14,10 @@ use Rattle.morta_task.specs.LogView.{LogView}
 use Rattle.morta_task.specs.Promise.{Promise}
 use Rattle.morta_task.specs.Legal.{last_in, GoesOnBehind, IsClosed}
 use Rattle.morta_exec.specs.declared.fault.DriveFault.{DriveFault}
-use Rattle.morta_exec.specs.Began.{Began, entries_in, run_in}
+use Rattle.morta_exec.specs.Began.{Began, all_entries, whole_run}
 use Rattle.morta_exec.specs.Log.{LogStands}
 use Rattle.morta_exec.specs.Drive.{StopsShort}
-use Rattle.morta_exec.specs.Standing.{Stands, StandsAt, IsOfRun}
+use Rattle.morta_exec.specs.Standing.{StandsBetween, StandsBefore, IsOfRun}
 
 -- the run of the whole loop of an entry
 unfoldable pub whole_loop : EntryView → Ran
@@ -32,28 +32,28 @@ EndsWith e i (Some end) =
 
 -- an entry was run to the end of its loop, and the log's last interval is its last
 pub record HasEnded {M : Type 0} (promise : Promise M) (b : Began M) (now : M) (e : EntryView) (log : LogView) (store : Memory) (end : Outcome) : Type 0 where
-  pub stands : Stands promise b now log
+  pub stands : StandsBetween promise b now log
   pub reaches : Reaches (whole_loop e) store end
   pub counted : length log.entries ≡ e.number
   pub interval : Interval
   pub is_last : last_in log.intervals ≡ Some interval
   pub number : interval.entry ≡ e.number
   pub state : store ≡ (state_after e (before e interval.done.to)).store
-  pub closed : GoesOnBehind interval.done.cut → IsClosed (entries_in b) interval
+  pub closed : GoesOnBehind interval.done.cut → IsClosed (all_entries b) interval
   pub goes_on : end ≡ Done → GoesOnBehind interval.done.cut
 
 -- behind an interval an entry goes on, or has ended
 abbrev pub GoesOnAt : {M : Type 0} → Promise M → Began M → M → EntryView → LogView → Handoff → Option Outcome → Type 0
-GoesOnAt promise b now e log handoff None = StandsAt promise b now e log (record { kept = None; handoff = handoff })
+GoesOnAt promise b now e log handoff None = StandsBefore promise b now e log (record { kept = None; handoff = handoff })
 GoesOnAt promise b now e log handoff (Some end) = HasEnded promise b now e log handoff.store end
 
 -- a run that stopped short, with its log
-pub record Stopped {M : Type 0} (promise : Promise M) (b : Began M) (log : LogView) (sent : Sent) (fault : DriveFault) : Type 0 where
-  pub log_stands : LogStands promise (entries_in b) b.first log
+pub record HasStopped {M : Type 0} (promise : Promise M) (b : Began M) (log : LogView) (sent : Sent) (fault : DriveFault) : Type 0 where
+  pub log_stands : LogStands promise (all_entries b) b.first log
   pub later : sent.faults_before ≤ sent.faults
-  pub stops : StopsShort (entries_in b) (run_in b).store log.intervals sent fault
+  pub stops : StopsShort (all_entries b) (whole_run b).store log.intervals sent fault
 
 -- an entry of the run, whose loop prints no more than the whole run
 pub record IsOn {M : Type 0} (b : Began M) (e : EntryView) : Type 0 where
   pub of_run : IsOfRun b e
-  pub leads : Extends (whole_loop e).store.printed (run_in b).store.printed
+  pub leads : Extends (whole_loop e).store.printed (whole_run b).store.printed

@@ -5,6 +5,6 @@ use Rattle.morta_exec.specs.declared.fault.DriveFault.{DriveFault}
 use Rattle.morta_exec.specs.declared.fault.DriveFault.TheVariants.{WriteFailed, NoMemory}
 
 -- what a fault of a sending makes of the drive
-abbrev pub fault_of : SendFault → DriveFault
-fault_of sending.WriteFailed = WriteFailed
-fault_of sending.NoMemory = NoMemory
+abbrev pub drive_fault : SendFault → DriveFault
+drive_fault sending.WriteFailed = WriteFailed
+drive_fault sending.NoMemory = NoMemory

@@ -18,10 +18,10 @@ use Rattle.morta_task.specs.LogView.{LogView}
 use Rattle.morta_task.specs.Promise.{Promise}
 use Rattle.morta_task.specs.Legal.{last_in, EndsAll}
 use Rattle.morta_exec.specs.declared.start.Arrival.{Arrival}
-use Rattle.morta_exec.specs.Began.{Began, entries_in, run_in}
+use Rattle.morta_exec.specs.Began.{Began, all_entries, whole_run}
 use Rattle.morta_exec.specs.Log.{LogStands}
 use Rattle.morta_exec.specs.Places.{most, ClosedBy, IsBehind}
-use Rattle.morta_exec.specs.Standing.{Stands}
+use Rattle.morta_exec.specs.Standing.{StandsBetween}
 use Rattle.morta_exec.specs.EntryRun.{whole_loop, IsOn}
 
 -- the entries of a run from this number on, at regions that it comes to
@@ -31,42 +31,42 @@ to_come b number rest = numbered_from b.image.regions b.from.turns number rest.e
 -- Between two entries of a run: the last entry in the log is at its end; what a frame has left once the loop at hand is done
 -- in this store is the rest of the run; and what is printed in it is printed at a place that the run comes to next.
 pub record Between {M : Type 0} (promise : Promise M) (left : Ran → Course → Type 0) (b : Began M) (now : M) (m : Memory) (log : LogView) : Type 0 where
-  pub stands : Stands promise b now log
-  pub closed : ClosedBy (entries_in b) (last_in log.intervals)
+  pub stands : StandsBetween promise b now log
+  pub closed : ClosedBy (all_entries b) (last_in log.intervals)
   pub rest : Course
   pub left_is : left (done m) rest
-  pub ran : rest.ran ≡ run_in b
-  pub comes : entries_in b ≡ log.entries ++ to_come b (length log.entries + 1) rest
+  pub ran : rest.ran ≡ whole_run b
+  pub comes : all_entries b ≡ log.entries ++ to_come b (length log.entries + 1) rest
   pub are_regions : All (IsEntryOf (regions_all (is_region_of b.image) b.image.main)) rest.entries
   pub place : Memory
-  pub behind : IsBehind (entries_in b) (run_in b).store log.intervals place
+  pub behind : IsBehind (all_entries b) (whole_run b).store log.intervals place
   pub from_here : Extends m.printed place.printed
-  pub printed : Extends place.printed (run_in b).store.printed
+  pub printed : Extends place.printed (whole_run b).store.printed
 
 -- A run has come to this entry, which is not in the log yet, and a frame has left what comes behind the entry's loop.
 pub record AtEntry {M : Type 0} (promise : Promise M) (left : Ran → Course → Type 0) (b : Began M) (now : M) (log : LogView) (e : EntryView) : Type 0 where
-  pub stands : Stands promise b now log
-  pub closed : ClosedBy (entries_in b) (last_in log.intervals)
+  pub stands : StandsBetween promise b now log
+  pub closed : ClosedBy (all_entries b) (last_in log.intervals)
   pub few : length log.intervals ≤ most
   pub rest : Course
   pub goes_on : left (whole_loop e) rest
-  pub ran : rest.ran ≡ run_in b
-  pub comes : entries_in b ≡ log.entries ++ (e ∷ to_come b (length log.entries + 1 + 1) rest)
+  pub ran : rest.ran ≡ whole_run b
+  pub comes : all_entries b ≡ log.entries ++ (e ∷ to_come b (length log.entries + 1 + 1) rest)
   pub are_regions : All (IsEntryOf (regions_all (is_region_of b.image) b.image.main)) rest.entries
   pub number : e.number ≡ length log.entries + 1
   pub on : IsOn b e
 
 -- a run is at its end
-pub record HasRun {M : Type 0} (promise : Promise M) (b : Began M) (log : LogView) (store : Memory) (end : Outcome) : Type 0 where
-  pub reaches : Reaches (run_in b) store end
-  pub log_stands : LogStands promise (entries_in b) b.first log
-  pub whole : EndsAll (entries_in b) (last_in log.intervals)
+pub record IsOver {M : Type 0} (promise : Promise M) (b : Began M) (log : LogView) (store : Memory) (end : Outcome) : Type 0 where
+  pub reaches : Reaches (whole_run b) store end
+  pub log_stands : LogStands promise (all_entries b) b.first log
+  pub whole : EndsAll (all_entries b) (last_in log.intervals)
   pub few : length log.intervals ≤ most
 
 -- behind an entry a run goes on to the next one, or is at its end
 abbrev pub GoesOnTo : {M : Type 0} → Promise M → (Ran → Course → Type 0) → Began M → M → LogView → Memory → Option Outcome → Type 0
 GoesOnTo promise left b now log store None = Between promise left b now store log
-GoesOnTo promise left b now log store (Some end) = HasRun promise b log store end
+GoesOnTo promise left b now log store (Some end) = IsOver promise b log store end
 
 -- a frame that goes on can go on from this store
 abbrev pub IsReadyTo : (ℕ → ℕ → Type 0) → Memory → Option Outcome → Type 0

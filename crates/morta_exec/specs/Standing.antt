@@ -9,7 +9,7 @@ use Rattle.morta_task.specs.Promise.{Promise, Keeps}
 use Rattle.morta_task.specs.Running.{IsIn, IsHandoff, IsDone, HandsOn, limit_of}
 use Rattle.morta_task.specs.Legal.{last_in, begun, ComesNext}
 use Rattle.morta_exec.specs.declared.start.Pending.{Pending}
-use Rattle.morta_exec.specs.Began.{Began, entries_in}
+use Rattle.morta_exec.specs.Began.{Began, all_entries}
 use Rattle.morta_exec.specs.Log.{LogStands}
 
 -- the ticks still to come behind these intervals, where they are told
@@ -19,8 +19,8 @@ AreLeft (Some told) now is = now ≡ Some (λ j. told (length is + j))
 
 -- between two intervals, with a log of those before: it is as it must be, and what runs and asks is the one that the run
 -- began with, which stands for this log now
-pub record Stands {M : Type 0} (promise : Promise M) (b : Began M) (now : M) (log : LogView) : Type 0 where
-  pub so_far : LogStands promise (entries_in b) b.first log
+pub record StandsBetween {M : Type 0} (promise : Promise M) (b : Began M) (now : M) (log : LogView) : Type 0 where
+  pub so_far : LogStands promise (all_entries b) b.first log
   pub keeps : Keeps promise b.first now
   pub stands : promise.stands_for now log
   pub ticks : AreLeft (promise.ticks_to_come b.first) (promise.ticks_to_come now) log.intervals
@@ -31,7 +31,7 @@ pub record Stands {M : Type 0} (promise : Promise M) (b : Began M) (now : M) (lo
 pub record IsOfRun {M : Type 0} (b : Began M) (e : EntryView) : Type 0 where
   pub entered : IsEntered e
   pub region : IsIn e b.image
-  pub named : slice_get (entries_in b) (e.number - 1) ≡ Some e
+  pub named : slice_get (all_entries b) (e.number - 1) ≡ Some e
   pub first : 1 ≤ e.number
 
 -- an entry is kept for the log until it has an interval; so many are in the log
@@ -39,10 +39,10 @@ abbrev pub KeptFor : Option EntryView → ℕ → EntryView → Type 0
 KeptFor kept count e = MatchOption kept (count ≡ e.number) (λ k. (k ≡ e) × (count + 1 ≡ e.number))
 
 -- between two intervals, where the next one is of this entry and begins so
-pub record StandsAt {M : Type 0} (promise : Promise M) (b : Began M) (now : M) (e : EntryView) (log : LogView) (pending : Pending) : Type 0 where
-  pub stands : Stands promise b now log
+pub record StandsBefore {M : Type 0} (promise : Promise M) (b : Began M) (now : M) (e : EntryView) (log : LogView) (pending : Pending) : Type 0 where
+  pub stands : StandsBetween promise b now log
   pub state : IsHandoff e pending.handoff
-  pub next : ComesNext (entries_in b) (last_in log.intervals) e pending.handoff.next
+  pub next : ComesNext (all_entries b) (last_in log.intervals) e pending.handoff.next
   pub listed : KeptFor pending.kept (length log.entries) e
 
 -- an interval of an entry was run from this index on, and logged

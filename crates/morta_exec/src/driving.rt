@@ -22,6 +22,7 @@ use fate_io::Sink;
 use morta_task::{Asker, Image, Log, Runner};
 use nona_frame::TreeFrame;
 use nona_store::Ended;
+use nona_tree::entries_are_regions;
 use std::alloc::{AllocError, Global};
 use std::snapshot::Snapshot;
 
@@ -68,6 +69,7 @@ pub fn drive<M: Runner + Asker, K: Sink>(
     ensures later { K.faults out.old ≤ K.faults out.new }
     ensures stops { IfErr result (λ fault. RunStops image.now from log.new.intervals (sent_since K.written K.faults out.old out.new) fault) }
 {
+    entries_are_regions();
     let Beginning { store, turns } = from;
     let start = Start {
         alloc,

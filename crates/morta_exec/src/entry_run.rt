@@ -10,8 +10,8 @@ ghost use Rattle.morta_exec.specs.Began.{began};
 ghost use Rattle.morta_exec.specs.Log.{ServesAll};
 ghost use Rattle.morta_exec.specs.Places.{most};
 ghost use Rattle.morta_exec.specs.Puts.{HasPut};
-ghost use Rattle.morta_exec.specs.Standing.{StandsAt};
-ghost use Rattle.morta_exec.specs.EntryRun.{whole_loop, EndsWith, HasEnded, GoesOnAt, Stopped, IsOn};
+ghost use Rattle.morta_exec.specs.Standing.{StandsBefore};
+ghost use Rattle.morta_exec.specs.EntryRun.{whole_loop, EndsWith, HasEnded, GoesOnAt, HasStopped, IsOn};
 
 use crate::fault::DriveFault;
 use crate::interval_run::run_interval;
@@ -80,13 +80,13 @@ fn run_and_show<M: Runner + Asker, K: Sink>(
 ) -> Result<(Handoff, Option<Outcome>), DriveFault>
     requires serves { ServesAll M.promise start.now.morta.value start.now.image.now }
     requires entry { IsOn (began start.now) entry.now }
-    requires stands { StandsAt M.promise (began start.now) morta.old entry.now log.old pending }
+    requires stands { StandsBefore M.promise (began start.now) morta.old entry.now log.old pending }
     requires put { HasPut (sent_since K.written K.faults start.now.out.value out.old) pending.handoff.store.printed }
     requires room { length log.old.intervals < most }
     ensures goes_on { IfOk result (λ r. GoesOnAt M.promise (began start.now) morta.new entry.now log.new r.0 r.1) }
     ensures put { IfOk result (λ r. HasPut (sent_since K.written K.faults start.now.out.value out.new) r.0.store.printed) }
     ensures added { OnOk result (length log.new.intervals ≡ length log.old.intervals + 1) }
-    ensures stopped { IfErr result (λ fault. Stopped M.promise (began start.now) log.new (sent_since K.written K.faults start.now.out.value out.new) fault) }
+    ensures stopped { IfErr result (λ fault. HasStopped M.promise (began start.now) log.new (sent_since K.written K.faults start.now.out.value out.new) fault) }
 {
     let shown = pending.handoff.store.printed().len();
     let (after, interval) = run_interval(start, entry, pending, morta, log)?;
@@ -106,14 +106,14 @@ pub fn run_entry<M: Runner + Asker, K: Sink>(
 ) -> Result<(Store, Outcome), DriveFault>
     requires serves { ServesAll M.promise start.now.morta.value start.now.image.now }
     requires entry { IsOn (began start.now) entry.now }
-    requires stands { StandsAt M.promise (began start.now) morta.old entry.now log.old pending }
+    requires stands { StandsBefore M.promise (began start.now) morta.old entry.now log.old pending }
     requires put { HasPut (sent_since K.written K.faults start.now.out.value out.old) pending.handoff.store.printed }
     requires few { length log.old.intervals ≤ most }
     ensures ended { IfOk result (λ r. HasEnded M.promise (began start.now) morta.new entry.now log.new r.0 r.1) }
     ensures put { IfOk result (λ r. HasPut (sent_since K.written K.faults start.now.out.value out.new) r.0.printed) }
     ensures few { OnOk result (length log.new.intervals ≤ most) }
     ensures added { OnOk result (length log.old.intervals < length log.new.intervals) }
-    ensures stopped { IfErr result (λ fault. Stopped M.promise (began start.now) log.new (sent_since K.written K.faults start.now.out.value out.new) fault) }
+    ensures stopped { IfErr result (λ fault. HasStopped M.promise (began start.now) log.new (sent_since K.written K.faults start.now.out.value out.new) fault) }
 {
     let mut pending = pending;
     while log.intervals().len() < MOST {

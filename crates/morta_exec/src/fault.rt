@@ -1,6 +1,6 @@
 ghost use Rattle.std.specs.Prelude.{◌≡◌};
 ghost use Rattle.morta_exec.specs.declared.fault.DriveFault.TheVariants.{NoMemory};
-ghost use Rattle.morta_exec.specs.Faults.{fault_of};
+ghost use Rattle.morta_exec.specs.Faults.{drive_fault};
 
 use fate_io::SendFault;
 use std::alloc::AllocError;
@@ -25,7 +25,7 @@ impl From<AllocError> for DriveFault {
 }
 
 impl From<SendFault> for DriveFault {
-    ghost from_gives = { λ f e. e ≡ fault_of f };
+    ghost from_gives = { λ f e. e ≡ drive_fault f };
 
     fn from(fault: SendFault) -> Self {
         match fault {

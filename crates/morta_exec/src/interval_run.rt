@@ -4,7 +4,7 @@ ghost use Rattle.morta_task.specs.LogView.{with_interval};
 ghost use Rattle.morta_task.specs.Running.{chosen, limit_of};
 ghost use Rattle.morta_exec.specs.Began.{began};
 ghost use Rattle.morta_exec.specs.Log.{ServesAll};
-ghost use Rattle.morta_exec.specs.Standing.{Stands, IsOfRun, KeptFor, StandsAt, HasRunInterval};
+ghost use Rattle.morta_exec.specs.Standing.{StandsBetween, IsOfRun, KeptFor, StandsBefore, HasRunInterval};
 
 use crate::start::{Pending, Start};
 use morta_task::{Asker, Config, Entry, Handoff, Interval, Log, Runner};
@@ -60,8 +60,8 @@ pub fn run_interval<M: Runner + Asker, K>(
 ) -> Result<(Handoff, Interval), AllocError>
     requires serves { ServesAll M.promise start.now.morta.value start.now.image.now }
     requires entry { IsOfRun (began start.now) entry.now }
-    requires stands { StandsAt M.promise (began start.now) morta.old entry.now log.old pending }
-    ensures stands { OnOk result (Stands M.promise (began start.now) morta.new log.new) }
+    requires stands { StandsBefore M.promise (began start.now) morta.old entry.now log.old pending }
+    ensures stands { OnOk result (StandsBetween M.promise (began start.now) morta.new log.new) }
     ensures ran { IfOk result (λ r. HasRunInterval entry.now pending.handoff.next log.old log.new r.0 r.1) }
     ensures err { OnErr result (log.new ≡ log.old) }
 {

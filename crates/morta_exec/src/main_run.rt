@@ -11,8 +11,8 @@ ghost use Rattle.morta_exec.specs.Began.{began};
 ghost use Rattle.morta_exec.specs.Log.{ServesAll};
 ghost use Rattle.morta_exec.specs.Places.{most};
 ghost use Rattle.morta_exec.specs.Puts.{HasPut};
-ghost use Rattle.morta_exec.specs.EntryRun.{Stopped};
-ghost use Rattle.morta_exec.specs.MainRun.{Between, AtEntry, HasRun, GoesOnTo, IsReadyTo, IsOpened, BeginsEntry};
+ghost use Rattle.morta_exec.specs.EntryRun.{HasStopped};
+ghost use Rattle.morta_exec.specs.MainRun.{Between, AtEntry, IsOver, GoesOnTo, IsReadyTo, IsOpened, BeginsEntry};
 
 use crate::entry_run::run_entry;
 use crate::fault::DriveFault;
@@ -22,7 +22,7 @@ use fate_io::Sink;
 use morta_task::{Asker, Entry, Handoff, Image, Log, Opening, RegionCode, Runner};
 use nona_main::{MainFrame, Stop};
 use nona_store::{Ended, Store};
-use nona_tree::Outcome;
+use nona_tree::{Outcome, printed_grows};
 
 /// The code of a region by its number, counted from 1, and what an image says of it.
 fn code_of(image: &Image, number: u32) -> &RegionCode
@@ -90,7 +90,7 @@ fn run_region<F: MainFrame, M: Runner + Asker, K: Sink>(
     ensures put { IfOk result (λ r. HasPut (sent_since K.written K.faults start.now.out.value out.new) r.0.printed) }
     ensures ready { IfOk result (λ r. IsReadyTo (F.ready frame.new start.now.turns) r.0 r.1) }
     ensures added { OnOk result (length log.old.intervals < length log.new.intervals) }
-    ensures stopped { IfErr result (λ fault. Stopped M.promise (began start.now) log.new (sent_since K.written K.faults start.now.out.value out.new) fault) }
+    ensures stopped { IfErr result (λ fault. HasStopped M.promise (began start.now) log.new (sent_since K.written K.faults start.now.out.value out.new) fault) }
 {
     let Arrival { entry, pending } = arrival;
     let (mut store, end) = run_entry(start, &entry, pending, morta, out, log)?;
@@ -123,8 +123,9 @@ fn step<F: MainFrame, M: Runner + Asker, K: Sink>(
     ensures put { IfOk result (λ r. HasPut (sent_since K.written K.faults start.now.out.value out.new) r.0.printed) }
     ensures ready { IfOk result (λ r. IsReadyTo (F.ready frame.new start.now.turns) r.0 r.1) }
     ensures added { IfOk result (λ r. r.1 ≡ None → length log.old.intervals < length log.new.intervals) }
-    ensures stopped { IfErr result (λ fault. Stopped M.promise (began start.now) log.new (sent_since K.written K.faults start.now.out.value out.new) fault) }
+    ensures stopped { IfErr result (λ fault. HasStopped M.promise (began start.now) log.new (sent_since K.written K.faults start.now.out.value out.new) fault) }
 {
+    printed_grows();
     let mut store = store;
     let shown = store.printed().len();
     let stop = frame.next(start.turns, &mut store)?;
@@ -159,9 +160,9 @@ pub fn drive_frame<F: MainFrame, M: Runner + Asker, K: Sink>(
     requires between { Between M.promise (F.left frame.old start.now.turns) (began start.now) morta.old store log.old }
     requires put { HasPut (sent_since K.written K.faults start.now.out.value out.old) store.printed }
     requires ready { F.ready frame.old start.now.turns (length store.scalars) (length store.arrays) }
-    ensures run { IfOk result (λ ended. HasRun M.promise (began start.now) log.new ended.store ended.outcome) }
+    ensures run { IfOk result (λ ended. IsOver M.promise (began start.now) log.new ended.store ended.outcome) }
     ensures put { IfOk result (λ ended. HasPut (sent_since K.written K.faults start.now.out.value out.new) ended.store.printed) }
-    ensures stopped { IfErr result (λ fault. Stopped M.promise (began start.now) log.new (sent_since K.written K.faults start.now.out.value out.new) fault) }
+    ensures stopped { IfErr result (λ fault. HasStopped M.promise (began start.now) log.new (sent_since K.written K.faults start.now.out.value out.new) fault) }
 {
     let mut store = store;
     loop {

@@ -18,6 +18,7 @@ use Rattle.morta_task.specs.declared.schemes.Config.{Config}
 use Rattle.morta_task.specs.declared.intervals.Cut.{Cut}
 use Rattle.morta_task.specs.declared.intervals.Cut.TheVariants as cut
 use Rattle.morta_task.specs.declared.intervals.Work.{Work}
+use Rattle.morta_task.specs.declared.intervals.Ran.{Ran}
 use Rattle.morta_task.specs.declared.intervals.Interval.{Interval}
 use Rattle.morta_task.specs.Entries.{EntryView}
 use Rattle.morta_task.specs.LogView.{LogView}
@@ -37,15 +38,15 @@ texts_from part number [] = []
 texts_from part number (x ∷ xs) = part number x ++ texts_from part (number + 1) xs
 
 -- the word for the kind of a trap
-abbrev pub kind_word : TrapKind → List ℕ
-kind_word trap.Index = codes "index"
-kind_word trap.Empty = codes "empty"
-kind_word trap.Divide = codes "divide"
+abbrev pub trap_word : TrapKind → List ℕ
+trap_word trap.Index = codes "index"
+trap_word trap.Empty = codes "empty"
+trap_word trap.Divide = codes "divide"
 
 -- how a run ended: nothing where it is done
 abbrev pub outcome_text : Outcome → List ℕ
 outcome_text outcome.Done = []
-outcome_text (outcome.Trap t) = codes "trap " ++ (kind_word t.kind ++ (codes " at " ++ (decimal t.at ++ 10 ∷ [])))
+outcome_text (outcome.Trap t) = codes "trap " ++ (trap_word t.kind ++ (codes " at " ++ (decimal t.at ++ 10 ∷ [])))
 outcome_text (outcome.OutOfTurns at) = codes "out of turns at " ++ (decimal at ++ 10 ∷ [])
 
 -- a variable and its value
@@ -102,12 +103,15 @@ abbrev pub work_text : Option Work → List ℕ
 work_text None = []
 work_text (Some w) = codes " steps " ++ (decimal w.steps ++ (codes " waits " ++ decimal w.waits))
 
+-- the end of an interval's line, from its work on
+abbrev pub interval_end : Ran → List ℕ
+interval_end done = work_text done.work ++ (codes " ticks " ++ (decimal done.ticks ++ (codes " end " ++ (cut_word done.cut ++ 10 ∷ []))))
+
 -- an interval
 abbrev pub interval_line : Interval → List ℕ
 interval_line i =
     codes "from " ++ (signed_decimal i.from ++ (codes " to " ++ (signed_decimal i.done.to
-    ++ (codes " asked " ++ (config_text i.asked.config ++ (codes " ran " ++ (config_text i.ran ++ (work_text i.done.work
-    ++ (codes " ticks " ++ (decimal i.done.ticks ++ (codes " end " ++ (cut_word i.done.cut ++ 10 ∷ []))))))))))))
+    ++ (codes " asked " ++ (config_text i.asked.config ++ (codes " ran " ++ (config_text i.ran ++ interval_end i.done)))))))
 
 -- an entry
 abbrev pub entry_line : EntryView → List ℕ
@@ -125,10 +129,13 @@ abbrev pub entry_before : List Interval → ℕ → ℕ
 entry_before is zero = 0
 entry_before is (suc place) = entry_number (slice_get is place)
 
+-- the entry with this number, where the interval before this place is of another one
+abbrev pub entry_if_new : LogView → ℕ → ℕ → List ℕ
+entry_if_new log place number = if entry_before log.intervals place == number then [] else entry_text (slice_get log.entries (number - 1))
+
 -- an interval of a log, by its place from 0, and before the first one of an entry that entry
 abbrev pub interval_text : LogView → ℕ → Interval → List ℕ
-interval_text log place i =
-    (if entry_before log.intervals place == i.entry then [] else entry_text (slice_get log.entries (i.entry - 1))) ++ interval_line i
+interval_text log place i = entry_if_new log place i.entry ++ interval_line i
 
 -- how many intervals a log has
 abbrev pub intervals_line : ℕ → List ℕ

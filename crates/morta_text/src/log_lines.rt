@@ -1,7 +1,8 @@
 ghost use Rattle.std.specs.Prelude.{◌≡◌, ◌≤◌, ◌-◌, ◌==◌, if◌then◌else◌, [], ◌∷◌, ◌++◌, length, codes, IfOk, OnOk, slice_get, string_bytes};
 ghost use Rattle.std.specs.Fmt.{decimal};
 ghost use Rattle.fate_io.specs.Sending.{sent_since, Sends};
-ghost use Rattle.morta_text.specs.Texts.{texts_from, scheme_word, cut_word, config_text, work_text, interval_line, entry_line, entry_text, entry_before, interval_text, intervals_line, log_text};
+ghost use Rattle.morta_text.specs.Texts.{texts_from, scheme_word, cut_word, config_text, work_text, interval_end, interval_line};
+ghost use Rattle.morta_text.specs.Texts.{entry_line, entry_text, entry_before, entry_if_new, interval_text, intervals_line, log_text};
 
 use fate_io::{SendFault, Sink, send};
 use morta_task::{Config, Cut, Entry, Interval, Log, Ran, Scheme, Work};
@@ -51,7 +52,7 @@ fn text_of_work(alloc: Global, work: Option<Work>) -> Result<String, AllocError>
 
 /// The end of an interval's line, from its work on.
 fn end_of_interval(alloc: Global, done: Ran) -> Result<String, AllocError>
-    ensures { IfOk result (λ text. string_bytes text ≡ work_text done.work ++ (codes " ticks " ++ (decimal done.ticks ++ (codes " end " ++ (cut_word done.cut ++ 10 ∷ []))))) }
+    ensures { IfOk result (λ text. string_bytes text ≡ interval_end done) }
 {
     let work = text_of_work(alloc, done.work)?;
     let ticks = done.ticks;
@@ -134,7 +135,7 @@ fn send_if_new<K: Sink>(
     out: &mut K,
 ) -> Result<(), SendFault>
     ensures later { K.faults out.old ≤ K.faults out.new }
-    ensures sent { Sends (sent_since K.written K.faults out.old out.new) (if entry_before log.now.intervals place == number then [] else entry_text (slice_get log.now.entries (number - 1))) result }
+    ensures sent { Sends (sent_since K.written K.faults out.old out.new) (entry_if_new log.now place number) result }
     ensures kept { OnOk result (K.faults out.new ≡ K.faults out.old) }
 {
     if entry_number_before(log.intervals(), place) == number {

@@ -1,6 +1,6 @@
 ghost use Rattle.std.specs.Prelude.{◌≡◌, ◌≤◌, IfOk, OnOk, string_bytes};
 ghost use Rattle.fate_io.specs.Sending.{sent_since, Sends};
-ghost use Rattle.morta_text.specs.Texts.{kind_word, outcome_text};
+ghost use Rattle.morta_text.specs.Texts.{trap_word, outcome_text};
 
 use fate_io::{SendFault, Sink, send};
 use nona_tree::{Outcome, TrapKind};
@@ -8,7 +8,7 @@ use std::alloc::{AllocError, Global};
 
 /// The word for the kind of a trap.
 fn word(kind: TrapKind) -> &'static str
-    ensures { result.now ≡ kind_word kind }
+    ensures { result.now ≡ trap_word kind }
 {
     match kind {
         TrapKind::Index => "index",

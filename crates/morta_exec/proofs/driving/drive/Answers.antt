@@ -1,5 +1,6 @@
 use Rattle.std.proofs.Common.{sym}
 use Rattle.nona_frame.specs.Left.{left_of}
+use Rattle.morta_task.specs.ImageView.{is_region_of}
 use Rattle.fate_io.specs.Sending.{sent_since}
 use Rattle.morta_exec.specs.Puts.{HasPut}
 use Rattle.morta_exec.specs.MainRun.{Between}
@@ -16,7 +17,8 @@ drive_frame-requires-clause-between g c =
     moved (λ x y z. Between g.M.Morta.promise left (begins image n x y) c.args.morta.now c.args.from.store c.args.log.now)
     c.args.from.store c.of.result.value c.args.morta.now c.of-2.result.value c.args.out.now c.of-3.result.value (sym c.of.ensures) (sym c.of-2.ensures) (sym c.of-3.ensures)
     (between_first g.M.Morta.promise left (begins image n c.args.from.store c.args.morta.now) c.args.log.now
-    g.met.M.Asker.stands_only c.requires.empty c.requires.stands c.requires.printed (c.in_ok-frame.ensures.left n c.args.from.store))
+    g.met.M.Asker.stands_only c.requires.empty c.requires.stands c.requires.printed (c.in_ok-frame.ensures.left n c.args.from.store)
+    (c.entries_are_regions.ensures (is_region_of image) image.main n c.args.from.store))
 
 pub drive_frame-requires-clause-put : goal.drive_frame-requires-clause-put
 drive_frame-requires-clause-put g c =

@@ -2,7 +2,7 @@ use Rattle.std.proofs.Common.{sym, subst}
 use Rattle.fate_io.specs.Sending.{sent_since}
 use Rattle.morta_exec.specs.declared.fault.DriveFault.TheVariants.{NoMemory}
 use Rattle.morta_exec.specs.Began.{began}
-use Rattle.morta_exec.specs.EntryRun.{Stopped}
+use Rattle.morta_exec.specs.EntryRun.{HasStopped}
 use Rattle.morta_exec.proofs.Stopping.{handed_on, stopped_memory}
 use Rattle.morta_exec.proofs.Passing.{interval_prints, shown_front, stopped_interval, goes_on_at, added_one}
 use Rattle.morta_exec.proofs.entry_run.run_and_show.Goals as goal
@@ -16,7 +16,7 @@ show-requires g c =
 pub returns-in_err-after-clause-stopped : goal.returns-in_err-after-clause-stopped
 returns-in_err-after-clause-stopped g c =
     handed_on _ c.from_residual.result _ c.from_residual.ensures.1
-    (subst (λ l. Stopped g.M.Morta.promise (began c.args.start.now) l (sent_since g.K.Sink.written g.K.Sink.faults c.args.start.now.out.value c.args.out.now) NoMemory) (sym c.in_err-after.ensures.err)
+    (subst (λ l. HasStopped g.M.Morta.promise (began c.args.start.now) l (sent_since g.K.Sink.written g.K.Sink.faults c.args.start.now.out.value c.args.out.now) NoMemory) (sym c.in_err-after.ensures.err)
     (stopped_memory g.M.Morta.promise (began c.args.start.now) c.args.morta.now c.args.entry.now c.args.log.now c.args.pending _
     c.requires.entry c.requires.stands c.requires.put c.requires.room))
 

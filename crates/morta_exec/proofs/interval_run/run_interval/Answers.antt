@@ -4,7 +4,7 @@ use Rattle.morta_task.specs.declared.intervals.Interval.{Interval}
 use Rattle.morta_task.specs.LogView.{with_interval}
 use Rattle.morta_task.specs.Running.{IsDone, limit_of}
 use Rattle.morta_exec.specs.Began.{began}
-use Rattle.morta_exec.specs.Standing.{Stands}
+use Rattle.morta_exec.specs.Standing.{StandsBetween}
 use Rattle.morta_exec.proofs.Asking.{may_run, keeps_both, at_hand}
 use Rattle.morta_exec.proofs.Turning.{count_with, stands_on}
 use Rattle.morta_exec.proofs.interval_run.run_interval.Goals as goal
@@ -39,7 +39,7 @@ returns-clause-stands g c =
     let hand = at_hand _ log e c.args.pending.kept _ stands.so_far.legal.entries c.requires.entry.named c.requires.entry.first c.requires.stands.listed in
     let asked = subst (λ (z : ℤ). promise.asked c.ask-asked.new.self log e z ask) same (c.ask-asked.ensures.asked log hand stands.stands) in
     let limit = subst (λ (z : ℤ). c.limit_for-limit.result ≡ limit_of e z ask.until) same c.limit_for-limit.ensures in
-    subst (λ l. Stands promise (began c.args.start.now) c.told.new.self l)
+    subst (λ l. StandsBetween promise (began c.args.start.now) c.told.new.self l)
     (sym (c.in_ok-note.ensures.ok ∙ ap (λ i. with_interval log e i) here))
     (stands_on promise (began c.args.start.now) c.args.morta.now c.ask-asked.new.self c.interval.new.self c.told.new.self log e from c.limit_for-limit.result ask config done c.args.pending.kept g.met.M.Asker.stands_only stands
     (record {

@@ -22,7 +22,7 @@ pub returns-in_err-show-clause-stopped : goal.returns-in_err-show-clause-stopped
 returns-in_err-show-clause-stopped g c =
     handed_on _ c.from_residual-in_err-show.result _ c.from_residual-in_err-show.ensures.1
     (stopped_main g.M.Morta.promise (g.F.MainFrame.left c.args.frame.now c.args.start.now.turns) (g.F.MainFrame.left c.next.new.self c.args.start.now.turns) (began c.args.start.now) c.args.morta.now c.args.store c.next.new.store c.args.log.now _ c.in_ok-stop.stop c.in_err-show.field-0.0
-    (g.met.F.MainFrame.only_prints c.next.new.self c.args.start.now.turns) c.requires.between (c.in_ok-stop.ensures.stops c.requires.between.rest c.requires.between.left_is) c.in_err-show.ensures.sent c.show.ensures.later)
+    c.printed_grows.ensures.one (g.met.F.MainFrame.only_prints c.next.new.self c.args.start.now.turns) c.requires.between (c.in_ok-stop.ensures.stops c.requires.between.rest c.requires.between.left_is) c.in_err-show.ensures.sent c.show.ensures.later)
 
 pub returns-in-Ended-clause-goes_on : goal.returns-in-Ended-clause-goes_on
 returns-in-Ended-clause-goes_on g c =
