@@ -1,5 +1,5 @@
 pub mod MarkLaws
-pub mod PlaceLaws
+pub mod PositionLaws
 pub mod Courses
 pub mod NoRegions
 pub mod Readiness

@@ -60,11 +60,11 @@ pub count-cons : (chosen : Loop → Bool) (s : Stmt) (rest : List Stmt) → coun
 count-cons chosen s rest = length-append (regions_in chosen s) (regions_all chosen rest)
 
 -- a mark that is set where it was left blank, before what belongs to it
-pub set_before : (before inside pushed all : List Mark) (blank : Mark) (place regions : ℕ)
-    → place ≡ length before → pushed ≡ before ++ blank ∷ [] → all ≡ pushed ++ inside
-    → slice_set all place (record { regions = regions; width = length all - place - 1 }) ≡ before ++ headed regions inside
-set_before before inside pushed all blank place regions at is behind =
-    let width : length all - place - 1 ≡ length inside = omega (arith, ap length behind, ap length is, length-append pushed inside, length-append before (blank ∷ [])) in
-    ap (λ k. slice_set all place (record { regions = regions; width = k })) width
-    ∙ ap (λ ms. slice_set ms place (record { regions = regions; width = length inside })) (behind ∙ ap (λ ms. ms ++ inside) is ∙ append_assoc before (blank ∷ []) inside)
-    ∙ set_at before blank inside (record { regions = regions; width = length inside }) place (sym at)
+pub set_before : (before inside pushed all : List Mark) (blank : Mark) (position regions : ℕ)
+    → position ≡ length before → pushed ≡ before ++ blank ∷ [] → all ≡ pushed ++ inside
+    → slice_set all position (record { regions = regions; width = length all - position - 1 }) ≡ before ++ headed regions inside
+set_before before inside pushed all blank position regions at is behind =
+    let width : length all - position - 1 ≡ length inside = omega (arith, ap length behind, ap length is, length-append pushed inside, length-append before (blank ∷ [])) in
+    ap (λ k. slice_set all position (record { regions = regions; width = k })) width
+    ∙ ap (λ ms. slice_set ms position (record { regions = regions; width = length inside })) (behind ∙ ap (λ ms. ms ++ inside) is ∙ append_assoc before (blank ∷ []) inside)
+    ∙ set_at before blank inside (record { regions = regions; width = length inside }) position (sym at)

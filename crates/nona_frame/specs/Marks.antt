@@ -7,7 +7,7 @@ use Rattle.nona_tree.specs.declared.trees.Stmt.{Stmt, If', While', For', Row_of-
 use Rattle.nona_tree.specs.Entries.{is_among, loop_with, count_in, count_row}
 use Rattle.nona_frame.specs.declared.marks.Mark.{Mark}
 use Rattle.nona_frame.specs.declared.marks.Marks.{Marks}
-use Rattle.nona_frame.specs.declared.marks.Place.{Place}
+use Rattle.nona_frame.specs.declared.marks.Position.{Position}
 
 -- the mark of something in which so many regions stand, and the marks that belong to what stands in it
 abbrev pub headed : ℕ → List Mark → List Mark
@@ -54,17 +54,17 @@ pub record AreMarks (main : List Stmt) (places : List ℕ) (table : Marks) : Typ
   pub places_are : table.places.now ≡ places
   pub marks_are : table.marks.items ≡ marks_all (is_among places) main
 
--- from this place on stand these marks, and the regions that they count have numbers
-pub record IsMarked (regions : ℕ) (marks : List Mark) (place : Place) (table : List Mark) : Type 0 where
-  pub few : place.first + regions < 2 ^ 32
+-- from this position on stand these marks, and the regions that they count have numbers
+pub record IsMarked (regions : ℕ) (marks : List Mark) (position : Position) (table : List Mark) : Type 0 where
+  pub few : position.first + regions < 2 ^ 32
   pub behind : List Mark
-  pub at : drop place.mark table ≡ marks ++ behind
+  pub at : drop position.mark table ≡ marks ++ behind
 
 -- the mark with this index
 abbrev pub mark_at : List Mark → ℕ → Mark
 mark_at table index = slice_index_or table index (record { regions = 0; width = 0 })
 
--- what stands at this place may be passed: it has its marks, and what stands behind it has a number
-pub record CanPass (place : Place) (table : List Mark) : Type 0 where
-  pub few : place.first + (mark_at table place.mark).regions < 2 ^ 32
-  pub within : place.mark + 1 + (mark_at table place.mark).width ≤ length table
+-- what stands at this position may be passed: it has its marks, and what stands behind it has a number
+pub record CanPass (position : Position) (table : List Mark) : Type 0 where
+  pub few : position.first + (mark_at table position.mark).regions < 2 ^ 32
+  pub within : position.mark + 1 + (mark_at table position.mark).width ≤ length table

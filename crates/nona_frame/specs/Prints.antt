@@ -40,15 +40,15 @@ turn_prints body n i m = all_kept MorePrinted printed_kept body n (declare i m)
 -- so does a task
 task_prints : (chosen : Loop → Bool) (t : Task) (n : ℕ) (r : Ran) → MorePrinted r.store (course_of_task chosen t n r).ran.store
 task_prints chosen (task.Rest b) n r =
-    after_prints r.store r.end (course_of chosen b.place.first b.statements.now n) (λ x. all_kept MorePrinted printed_kept b.statements.now n x)
+    after_prints r.store r.end (course_of chosen b.position.first b.statements.now n) (λ x. all_kept MorePrinted printed_kept b.statements.now n x)
 task_prints chosen (task.Leave depth) n r = order.same r.store
 task_prints chosen (task.While w) n r =
     let body = w.body.statements.now in
-    after_prints r.store r.end (course_of_while chosen w.test.now body w.at w.left w.body.place.first n)
+    after_prints r.store r.end (course_of_while chosen w.test.now body w.at w.left w.body.position.first n)
     (λ x. kept_while MorePrinted order w.at (value_of w.test.now) (block (run_all body n)) (block_prints body n) w.left x)
 task_prints chosen (task.For f) n r =
     let body = f.body.statements.now in
-    after_prints r.store r.end (course_of_turns chosen body f.next (int_gap f.next f.high) f.at f.left f.body.place.first n)
+    after_prints r.store r.end (course_of_turns chosen body f.next (int_gap f.next f.high) f.at f.left f.body.position.first n)
     (λ x. kept_for MorePrinted order f.at (turn (run_all body n)) f.next (turn_prints body n) (int_gap f.next f.high) f.left x)
 
 -- so do tasks, one after another

@@ -46,7 +46,7 @@ if_of c = If c.test.now c.yes.statements.now c.no.statements.now
 
 -- the second block has the numbers behind those of the regions in the first
 abbrev pub IsNumbered : (Loop → Bool) → Choice → Type 0
-IsNumbered chosen c = c.no.place.first ≡ c.yes.place.first + count_all chosen c.yes.statements.now
+IsNumbered chosen c = c.no.position.first ≡ c.yes.position.first + count_all chosen c.yes.statements.now
 
 -- no fewer than the steps that an if takes
 abbrev pub cost_of_if : Choice → ℕ → ℕ
@@ -74,8 +74,8 @@ CostsNoMore cost n before result after = OnOk result (cost_by (reverse after) n 
 -- a block is a statement, and then the rest of the block
 pub record IsSplit (b : Block) (s : Stmt) (rest : Block) (table : Marks) : Type 0 where
   pub whole : b.statements.now ≡ s ∷ rest.statements.now
-  pub first : rest.place.first ≡ b.place.first + count_in (chosen_in table) s
-  pub here : IsStatementMarked s b.place table
+  pub first : rest.position.first ≡ b.position.first + count_in (chosen_in table) s
+  pub here : IsStatementMarked s b.position table
   pub behind : IsBlockMarked rest table
 
 -- tasks were done up to the next region or to the end, from the first store on

@@ -13,7 +13,7 @@ use Rattle.nona_tree.specs.Beside.{while_gives, first_give}
 use Rattle.nona_tree.specs.Scope.{IsNamed, AreScoped, depth_after_all}
 use Rattle.nona_tree.specs.Entries.{count_in, count_all, entries, entries_all}
 use Rattle.nona_frame.specs.declared.marks.Marks.{Marks}
-use Rattle.nona_frame.specs.declared.marks.Place.{Place}
+use Rattle.nona_frame.specs.declared.marks.Position.{Position}
 use Rattle.nona_frame.specs.declared.steps.Block.{Block}
 use Rattle.nona_frame.specs.declared.steps.Task.{Task}
 use Rattle.nona_frame.specs.declared.steps.Task.TheVariants as task
@@ -50,12 +50,12 @@ course_of_turns chosen body low count at turns first n m = record {
 
 -- the course of a task, from where the run has come to
 abbrev pub course_of_task : (Loop → Bool) → Task → ℕ → Ran → Course
-course_of_task chosen (task.Rest b) n r = course_after r (course_of chosen b.place.first b.statements.now n)
+course_of_task chosen (task.Rest b) n r = course_after r (course_of chosen b.position.first b.statements.now n)
 course_of_task chosen (task.Leave depth) n r = ended (cut_to depth r.store) r.end
 course_of_task chosen (task.While w) n r =
-    course_after r (course_of_while chosen w.test.now w.body.statements.now w.at w.left w.body.place.first n)
+    course_after r (course_of_while chosen w.test.now w.body.statements.now w.at w.left w.body.position.first n)
 course_of_task chosen (task.For f) n r =
-    course_after r (course_of_turns chosen f.body.statements.now f.next (int_gap f.next f.high) f.at f.left f.body.place.first n)
+    course_after r (course_of_turns chosen f.body.statements.now f.next (int_gap f.next f.high) f.at f.left f.body.position.first n)
 
 -- the course of tasks, one after another
 abbrev pub course_by : (Loop → Bool) → List Task → ℕ → Ran → Course
@@ -73,14 +73,14 @@ depth_behind (task.Leave kept) depth = kept
 depth_behind (task.While w) depth = depth
 depth_behind (task.For f) depth = depth
 
--- the marks of a block stand from its place on
+-- the marks of a block stand from its position on
 abbrev pub IsBlockMarked : Block → Marks → Type 0
 IsBlockMarked b table =
-    let ss = b.statements.now in IsMarked (count_all (chosen_in table) ss) (marks_all (chosen_in table) ss) b.place table.marks.items
+    let ss = b.statements.now in IsMarked (count_all (chosen_in table) ss) (marks_all (chosen_in table) ss) b.position table.marks.items
 
--- the marks of a statement stand from this place on
-abbrev pub IsStatementMarked : Stmt → Place → Marks → Type 0
-IsStatementMarked s place table = IsMarked (count_in (chosen_in table) s) (marks_in (chosen_in table) s) place table.marks.items
+-- the marks of a statement stand from this position on
+abbrev pub IsStatementMarked : Stmt → Position → Marks → Type 0
+IsStatementMarked s position table = IsMarked (count_in (chosen_in table) s) (marks_in (chosen_in table) s) position table.marks.items
 
 -- a task has its marks, and a store with so many scalars and arrays has what it names
 abbrev pub IsReady : Marks → Task → ℕ → ℕ → Type 0

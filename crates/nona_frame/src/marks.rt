@@ -34,7 +34,7 @@ pub struct Marks<'a> {
 
 /// Where a statement stands, or the first of several.
 #[derive(Clone, Copy)]
-pub struct Place {
+pub struct Position {
     /// The number of the first region in it, or of the first behind it where it has none: one more than how many regions
     /// stand before it in the text.
     pub first: u32,
@@ -42,46 +42,46 @@ pub struct Place {
     pub mark: usize,
 }
 
-/// The place of the first statement in what stands at this one.
-pub fn inside(place: Place) -> Place
-    requires { place.mark + 1 < 2 ^ 64 }
-    ensures { result ≡ record { first = place.first; mark = place.mark + 1 } }
+/// The position of the first statement in what stands at this one.
+pub fn inside(position: Position) -> Position
+    requires { position.mark + 1 < 2 ^ 64 }
+    ensures { result ≡ record { first = position.first; mark = position.mark + 1 } }
 {
-    Place {
-        first: place.first,
-        mark: place.mark + 1,
+    Position {
+        first: position.first,
+        mark: position.mark + 1,
     }
 }
 
-/// The place behind what stands at this one.
-pub fn behind(place: Place, marks: &Marks) -> Place
-    requires { CanPass place marks.now.marks.items }
-    ensures { (j k : ℕ) (inside rest : List Mark) → IsMarked (j + k) (headed j inside ++ rest) place marks.now.marks.items
-        → IsMarked k rest result marks.now.marks.items × (result.first ≡ place.first + j) }
+/// The position behind what stands at this one.
+pub fn behind(position: Position, marks: &Marks) -> Position
+    requires { CanPass position marks.now.marks.items }
+    ensures { (j k : ℕ) (inside rest : List Mark) → IsMarked (j + k) (headed j inside ++ rest) position marks.now.marks.items
+        → IsMarked k rest result marks.now.marks.items × (result.first ≡ position.first + j) }
 {
-    let mark = marks.marks[place.mark];
-    Place {
-        first: place.first + mark.regions,
-        mark: place.mark + 1 + mark.width,
+    let mark = marks.marks[position.mark];
+    Position {
+        first: position.first + mark.regions,
+        mark: position.mark + 1 + mark.width,
     }
 }
 
-/// Whether the loop at this place, in which a region stands, is that region itself: then it has no marks inside it.
-pub fn is_region(place: Place, marks: &Marks) -> bool
-    requires { place.mark < length marks.now.marks.items }
+/// Whether the loop at this position, in which a region stands, is that region itself: then it has no marks inside it.
+pub fn is_region(position: Position, marks: &Marks) -> bool
+    requires { position.mark < length marks.now.marks.items }
     ensures { (chosen : Loop → Bool) (l : Loop) → count_in chosen (For l) ≢ 0
-        → IsMarked (count_in chosen (For l)) (marks_in chosen (For l)) place marks.now.marks.items → result ≡ chosen l }
+        → IsMarked (count_in chosen (For l)) (marks_in chosen (For l)) position marks.now.marks.items → result ≡ chosen l }
 {
-    marks.marks[place.mark].width == 0
+    marks.marks[position.mark].width == 0
 }
 
-/// Sets the mark at `place`: all marks behind it belong to it.
-fn set_mark(place: usize, regions: u32, marks: &mut Vec<Mark>)
-    requires { place < length marks.old.items }
-    ensures { marks.new.items ≡ slice_set marks.old.items place (record { regions = regions; width = length marks.old.items - place - 1 }) }
+/// Sets the mark with this index: all marks behind it belong to it.
+fn set_mark(index: usize, regions: u32, marks: &mut Vec<Mark>)
+    requires { index < length marks.old.items }
+    ensures { marks.new.items ≡ slice_set marks.old.items index (record { regions = regions; width = length marks.old.items - index - 1 }) }
 {
-    let width = marks.len() - place - 1;
-    marks[place] = Mark { regions, width };
+    let width = marks.len() - index - 1;
+    marks[index] = Mark { regions, width };
 }
 
 /// A mark that is to be set.
@@ -104,10 +104,10 @@ fn mark_statement(
     ensures marks { OnOk result (marks.new.items ≡ marks.old.items ++ marks_in (is_in regions.now) s.now) }
     ensures count { IfOk result (λ count. count ≡ count_in (is_in regions.now) s.now) }
 {
-    let place = marks.len();
+    let index = marks.len();
     marks.push(blank())?;
     let count = mark_inside(s, regions, marks)?;
-    set_mark(place, count, marks);
+    set_mark(index, count, marks);
     Ok(count)
 }
 
@@ -153,10 +153,10 @@ fn mark_block(
         ≡ marks.old.items ++ headed (count_all (is_in regions.now) body.now) (marks_all (is_in regions.now) body.now)) }
     ensures count { IfOk result (λ count. count ≡ count_all (is_in regions.now) body.now) }
 {
-    let place = marks.len();
+    let index = marks.len();
     marks.push(blank())?;
     let count = mark_all(body, regions, marks)?;
-    set_mark(place, count, marks);
+    set_mark(index, count, marks);
     Ok(count)
 }
 

@@ -14,7 +14,7 @@ ghost use Rattle.nona_frame.specs.Tasks.{depth_behind, IsBlockMarked, IsStatemen
 ghost use Rattle.nona_frame.specs.Steps.{if_of, cost_of_if, IsNumbered, BeginsTask, BeginsStatement, KeepsReady, CostsLess, CostsNoMore, IsSplit, LeavesTask};
 ghost use Rattle.nona_frame.specs.Costs.{cost_in, cost_all, cost_of};
 
-use crate::marks::{Marks, Place, behind, inside, is_region};
+use crate::marks::{Marks, Position, behind, inside, is_region};
 use nona_store::Store;
 use nona_tree::{Expr, Loop, Outcome, Stmt, lengths_stay, printed_grows, scalars_stay};
 use nona_walk::{is_no, leave, value, walk};
@@ -25,7 +25,7 @@ use std::alloc::AllocError;
 pub struct Block<'a> {
     pub statements: &'a [Stmt],
     /// Where the first of them stands.
-    pub place: Place,
+    pub position: Position,
 }
 
 /// The turns of a `while` that are left. Its test comes next.
@@ -119,7 +119,7 @@ fn split<'a>(block: Block<'a>, marks: &Marks) -> Option<(&'a Stmt, Block<'a>)>
             first,
             Block {
                 statements,
-                place: behind(block.place, marks),
+                position: behind(block.position, marks),
             },
         )),
     }
@@ -153,7 +153,7 @@ fn choose<'a>(
     requires yes { AreScoped choice.yes.statements.now (length store.now.scalars) (length store.now.arrays) }
     requires no { AreScoped choice.no.statements.now (length store.now.scalars) (length store.now.arrays) }
     ensures steps { (chosen : Loop → Bool) → IsNumbered chosen choice.entry
-        → BeginsStatement chosen choice.entry.yes.place.first (if_of choice.entry) turns store.now tasks.old.items result store.now tasks.new.items }
+        → BeginsStatement chosen choice.entry.yes.position.first (if_of choice.entry) turns store.now tasks.old.items result store.now tasks.new.items }
     ensures ready { (table : Marks) → IsBlockMarked choice.entry.yes table → IsBlockMarked choice.entry.no table
         → KeepsReady table (λ depth. depth) store.now tasks.old.items result store.now tasks.new.items }
     ensures cost { CostsNoMore (cost_of_if choice.entry turns) turns tasks.old.items result tasks.new.items }
@@ -245,7 +245,7 @@ fn go_on_for<'a>(
 /// Begins a `for` in which a region stands: takes the values of its bounds, and comes to it where it is the region.
 fn enter_for<'a>(
     l: &'a Loop,
-    here: Place,
+    here: Position,
     turns: u64,
     tasks: &mut Vec<Task<'a>>,
     marks: &Marks,
@@ -276,7 +276,7 @@ fn enter_for<'a>(
     let rest = ForTurns {
         body: Block {
             statements: l.body.as_slice(),
-            place: inside(here),
+            position: inside(here),
         },
         next: low,
         high,
@@ -296,7 +296,7 @@ fn enter_while<'a>(
     tasks: &mut Vec<Task<'a>>,
 ) -> Result<Step, AllocError>
     ensures steps { (chosen : Loop → Bool) (m : Memory)
-        → BeginsStatement chosen body.entry.place.first (stmt.While test.now body.entry.statements.now at) turns m tasks.old.items result m tasks.new.items }
+        → BeginsStatement chosen body.entry.position.first (stmt.While test.now body.entry.statements.now at) turns m tasks.old.items result m tasks.new.items }
     ensures ready { (table : Marks) (m : Memory) → IsNamed test.now (length m.scalars) (length m.arrays)
         → AreScoped body.entry.statements.now (length m.scalars) (length m.arrays) → IsBlockMarked body.entry table
         → KeepsReady table (λ depth. depth) m tasks.old.items result m tasks.new.items }
@@ -315,7 +315,7 @@ fn enter_while<'a>(
 /// Begins a statement. One in which no region stands is run in one piece.
 fn enter<'a>(
     statement: &'a Stmt,
-    here: Place,
+    here: Position,
     turns: u64,
     tasks: &mut Vec<Task<'a>>,
     marks: &Marks,
@@ -344,11 +344,11 @@ fn enter<'a>(
                 test,
                 yes: Block {
                     statements: yes.as_slice(),
-                    place: inside(inner),
+                    position: inside(inner),
                 },
                 no: Block {
                     statements: no.as_slice(),
-                    place: behind(inner, marks),
+                    position: behind(inner, marks),
                 },
             };
             choose(choice, turns, tasks, store)
@@ -356,7 +356,7 @@ fn enter<'a>(
         Stmt::While { test, body, at } => {
             let body = Block {
                 statements: body.as_slice(),
-                place: inside(here),
+                position: inside(here),
             };
             enter_while(test, body, *at, turns, tasks)
         }
@@ -383,7 +383,7 @@ fn go_on_block<'a>(
         None => Ok(Step::On),
         Some((statement, rest)) => {
             push(tasks, Task::Rest(rest))?;
-            enter(statement, block.place, turns, tasks, marks, store)
+            enter(statement, block.position, turns, tasks, marks, store)
         }
     }
 }

@@ -12,7 +12,7 @@ ghost use Rattle.nona_frame.specs.Steps.{LeavesTasks, RunsOn};
 ghost use Rattle.nona_frame.specs.Left.{left_of, ready_of};
 ghost use Rattle.nona_frame.specs.Prints.{left_prints};
 
-use crate::marks::{Marks, Place, mark_main};
+use crate::marks::{Marks, Position, mark_main};
 use crate::steps::{Block, Step, Task, begin_task, leave_task, pop, push};
 use nona_main::{MainFrame, Stop};
 use nona_store::Store;
@@ -83,7 +83,7 @@ impl<'a> TreeFrame<'a> {
         let marks = mark_main(alloc, main, places)?;
         let all = Block {
             statements: main,
-            place: Place { first: 1, mark: 0 },
+            position: Position { first: 1, mark: 0 },
         };
         let mut tasks = Vec::new(alloc);
         push(&mut tasks, Task::Rest(all))?;

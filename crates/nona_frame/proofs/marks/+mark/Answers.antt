@@ -62,13 +62,13 @@ mark_inside-returns-else-contains-clause-count t c =
 pub mark_statement-returns-clause-marks : goal.mark_statement-returns-clause-marks
 mark_statement-returns-clause-marks t c =
     let before = c.args.marks.now.items in
-    let at : c.len-place.result ≡ length before = omega arith in
+    let at : c.len-index.result ≡ length before = omega arith in
     rw (c.set_mark.ensures, ← c.in_ok-count.ensures.count)
     (set_before before (marks_inside (is_in c.args.regions.now) c.args.s.now) _ c.mark_inside.new.marks.items _ _ _ at c.in_ok-push.ensures.items c.in_ok-count.ensures.marks)
 
 pub mark_block-returns-clause-marks : goal.mark_block-returns-clause-marks
 mark_block-returns-clause-marks t c =
     let before = c.args.marks.now.items in
-    let at : c.len-place.result ≡ length before = omega arith in
+    let at : c.len-index.result ≡ length before = omega arith in
     rw (c.set_mark.ensures, ← c.in_ok-count.ensures.count)
     (set_before before (marks_all (is_in c.args.regions.now) c.args.body.now) _ c.mark_all.new.marks.items _ _ _ at c.in_ok-push.ensures.items c.in_ok-count.ensures.marks)

@@ -21,7 +21,7 @@ returns-in_ok-begin-in-Ok-clause-steps c =
     let m = c.args.store.now in
     let later = λ (chosen : Loop → Bool). course_by chosen (reverse c.args.tasks.now.items) n in
     λ chosen numbered. rw (c.in_ok-begin-in-Ok.ensures, c.depth.ensures)
-    (ap (λ x. joined x (later chosen)) (course_if_no chosen yes.place.first c.args.choice.test.now yes.statements.now no.statements.now n m v (sym c.value.ensures ∙ c.in-Ok.is) zero ∙ ap (λ k. course_of_block chosen k no.statements.now n m) (sym numbered)))
+    (ap (λ x. joined x (later chosen)) (course_if_no chosen yes.position.first c.args.choice.test.now yes.statements.now no.statements.now n m v (sym c.value.ensures ∙ c.in-Ok.is) zero ∙ ap (λ k. course_of_block chosen k no.statements.now n m) (sym numbered)))
 
 pub returns-in_ok-begin-in-Ok-2-clause-steps : goal.returns-in_ok-begin-in-Ok-2-clause-steps
 returns-in_ok-begin-in-Ok-2-clause-steps c =
@@ -34,7 +34,7 @@ returns-in_ok-begin-in-Ok-2-clause-steps c =
     let m = c.args.store.now in
     let later = λ (chosen : Loop → Bool). course_by chosen (reverse c.args.tasks.now.items) n in
     λ chosen numbered. rw (c.in_ok-begin-in-Ok-2.ensures, c.depth-else-is_no.ensures)
-    (ap (λ x. joined x (later chosen)) (course_if_yes chosen yes.place.first c.args.choice.test.now yes.statements.now no.statements.now n m v (sym c.value.ensures ∙ c.in-Ok.is) other))
+    (ap (λ x. joined x (later chosen)) (course_if_yes chosen yes.position.first c.args.choice.test.now yes.statements.now no.statements.now n m v (sym c.value.ensures ∙ c.in-Ok.is) other))
 
 pub returns-in_ok-begin-in-Ok-clause-ready : goal.returns-in_ok-begin-in-Ok-clause-ready
 returns-in_ok-begin-in-Ok-clause-ready c =

@@ -5,7 +5,7 @@ use Rattle.nona_walk.proofs.Parts.{in_if, in_while}
 use Rattle.nona_frame.specs.Marks.{chosen_in, marks_all, IsMarked}
 use Rattle.nona_frame.proofs.CostLaws.{cost_if, cost_while}
 use Rattle.nona_frame.proofs.Handed.{begins_same}
-use Rattle.nona_frame.proofs.PlaceLaws.{while_marked, if_marked, first_block_marked}
+use Rattle.nona_frame.proofs.PositionLaws.{while_marked, if_marked, first_block_marked}
 use Rattle.nona_frame.proofs.steps.enter.Goals as goal
 
 pub choose-requires-clause-yes : goal.choose-requires-clause-yes

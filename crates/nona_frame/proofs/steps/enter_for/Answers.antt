@@ -9,7 +9,7 @@ use Rattle.nona_frame.specs.Marks.{chosen_in}
 use Rattle.nona_frame.specs.Tasks.{course_by}
 use Rattle.nona_frame.proofs.CostLaws.{cost_for}
 use Rattle.nona_frame.proofs.Courses.{course_region, course_turns}
-use Rattle.nona_frame.proofs.PlaceLaws.{for_marked}
+use Rattle.nona_frame.proofs.PositionLaws.{for_marked}
 use Rattle.nona_frame.proofs.steps.enter_for.Goals as goal
 
 pub returns-then-is_region-clause-steps : goal.returns-then-is_region-clause-steps

@@ -7,4 +7,4 @@ use Rattle.nona_frame.proofs.steps.enter_while.Goals as goal
 pub returns-clause-steps : goal.returns-clause-steps
 returns-clause-steps c =
     let body = c.args.body in
-    λ chosen m. rw c.in_ok-push.ensures (ap (λ x. joined x (course_by chosen (reverse c.args.tasks.now.items) c.args.turns)) (course_while chosen body.place.first c.args.test.now body.statements.now c.args.at c.args.turns m))
+    λ chosen m. rw c.in_ok-push.ensures (ap (λ x. joined x (course_by chosen (reverse c.args.tasks.now.items) c.args.turns)) (course_while chosen body.position.first c.args.test.now body.statements.now c.args.at c.args.turns m))

@@ -18,7 +18,7 @@ returns-clause-steps c =
     let next = ap (λ k. mir.Val.to_z w64 (mir.Val.of_z w64 (k +ℤ pos 1))) same ∙ to_z-of_z w64 (i +ℤ pos 1) (fits_next i rest.high low_fits high_fits below) in
     λ chosen.
     rw (c.in_ok-begin.ensures, c.in_ok-push.ensures, c.depth.ensures, c.in_ok-push_scalar.ensures.ok)
-    (turn_taken chosen rest.body.statements.now i rest.high _ _ _ rest.left rest.at rest.body.place.first c.args.turns c.args.store.now (course_by chosen (reverse c.args.tasks.now.items) c.args.turns) some below next same (to_z-of_z w64 rest.high high_fits))
+    (turn_taken chosen rest.body.statements.now i rest.high _ _ _ rest.left rest.at rest.body.position.first c.args.turns c.args.store.now (course_by chosen (reverse c.args.tasks.now.items) c.args.turns) some below next same (to_z-of_z w64 rest.high high_fits))
 
 pub returns-clause-ready : goal.returns-clause-ready
 returns-clause-ready c =
