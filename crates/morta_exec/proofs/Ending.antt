@@ -1,5 +1,5 @@
 -- How the loop of an entry ends with an interval.
-use Rattle.std.proofs.Common.{◌≡◌, ◌≢◌, ◌<◌, ◌≤◌, ◌-◌, ℕ, ℤ, pos, ◌+ℤ◌, true, false, nat_le, refl, sym, ap, subst, ◌∙◌, arith, None, Some, slice_get}
+use Rattle.std.proofs.Common.{◌≡◌, ◌≢◌, ◌<◌, ◌≤◌, ◌-◌, ℕ, ℤ, pos, ◌+ℤ◌, refl, sym, ap, subst, ◌∙◌, arith, None, Some, slice_get}
 use Rattle.nona_tree.specs.declared.outcomes.Outcome.{Outcome}
 use Rattle.nona_tree.specs.declared.outcomes.Outcome.TheVariants as outcome
 use Rattle.nona_tree.specs.declared.outcomes.Trap.{Trap as Trapped}
@@ -15,16 +15,16 @@ use Rattle.morta_task.specs.ImageView.{ImageView}
 use Rattle.morta_task.specs.Entries.{EntryView, IsEntered, IsWithin, last, before, state_after}
 use Rattle.morta_task.specs.Running.{IsIn, IsDone, CutSays}
 use Rattle.morta_task.specs.Legal.{GoesOnBehind}
-use Rattle.morta_exec.specs.EntryRun.{whole_loop, EndsWith}
+use Rattle.morta_exec.specs.EntryRun.{whole_loop, LoopsOfEntries, EndsWith}
 use Rattle.morta_exec.proofs.Growing.{some_same}
-use Rattle.morta_exec.proofs.Loops.{before_last, loop_over}
+use Rattle.morta_exec.proofs.Loops.{before_last}
 
 -- a test of two numbers, by what they stand for
-pub enough : (k j m n : ℕ) → k ≡ m → j ≡ n → k ≤ j → nat_le m n ≡ true
-enough k j m n a b h = grind arith
+pub enough : (k j m n : ℕ) → k ≡ m → j ≡ n → k ≤ j → m ≤ n
+enough k j m n a b h = omega (arith, a, b, h)
 
-pub too_few : (k j m n : ℕ) → k ≡ m → j ≡ n → j < k → nat_le m n ≡ false
-too_few k j m n a b h = grind arith
+pub too_few : (k j m n : ℕ) → k ≡ m → j ≡ n → j < k → n < m
+too_few k j m n a b h = omega (arith, a, b, h)
 
 -- the place of an entry's loop is that of its region
 pub place_of : (image : ImageView) (e : EntryView) (region : ℕ) (code : RegionCode) → IsIn e image → region ≡ e.region
@@ -61,10 +61,10 @@ pub ends_short : (e : EntryView) (i : Interval) (limit : ℕ) → IsDone e i.ran
 ends_short e i limit d on other = (short_of e i.done.to d.within other, on)
 
 -- an iteration that ended otherwise ends the loop
-ends_otherwise : (e : EntryView) (k : ℕ) (end : Outcome) → IsEntered e → k ≤ before e (last e) → (state_after e k).end ≡ end → end ≢ outcome.Done
+ends_otherwise : LoopsOfEntries → (e : EntryView) (k : ℕ) (end : Outcome) → IsEntered e → k ≤ before e (last e) → (state_after e k).end ≡ end → end ≢ outcome.Done
     → Reaches (whole_loop e) (state_after e k).store end
-ends_otherwise e k end is within ended other =
-    loop_over e k is within (λ h. other (sym ended ∙ h)) ∙ ap (λ (o : Outcome). record { store = (state_after e k).store; end = o }) ended
+ends_otherwise loops e k end is within ended other =
+    loops.over e k is within (λ h. other (sym ended ∙ h)) ∙ ap (λ (o : Outcome). record { store = (state_after e k).store; end = o }) ended
 
 trap_not_done : (t : Trapped) → outcome.Trap t ≢ outcome.Done
 trap_not_done t h = cc
@@ -72,20 +72,20 @@ trap_not_done t h = cc
 want_not_done : (at : ℕ) → outcome.OutOfTurns at ≢ outcome.Done
 want_not_done at h = cc
 
-pub ends_trap : (e : EntryView) (i : Interval) (limit : ℕ) (t : Trapped) → IsEntered e → IsDone e i.ran i.from limit i.done → i.done.cut ≡ Trap t
+pub ends_trap : LoopsOfEntries → (e : EntryView) (i : Interval) (limit : ℕ) (t : Trapped) → IsEntered e → IsDone e i.ran i.from limit i.done → i.done.cut ≡ Trap t
     → EndsWith e i (Some (outcome.Trap t))
-ends_trap e i limit t is d cut =
+ends_trap loops e i limit t is d cut =
     let says : CutSays e i.ran (before e i.from) limit (before e i.done.to) (Trap t) = subst (CutSays e i.ran (before e i.from) limit (before e i.done.to)) cut d.cut in (
-      ends_otherwise e (before e i.done.to) (outcome.Trap t) is d.within.1 says.2 (trap_not_done t),
+      ends_otherwise loops e (before e i.done.to) (outcome.Trap t) is d.within.1 says.2 (trap_not_done t),
       (λ on. absurd (subst GoesOnBehind cut on)),
       (λ same. absurd (trap_not_done t same)),
     )
 
-pub ends_want : (e : EntryView) (i : Interval) (limit at : ℕ) → IsEntered e → IsDone e i.ran i.from limit i.done → i.done.cut ≡ Turns at
+pub ends_want : LoopsOfEntries → (e : EntryView) (i : Interval) (limit at : ℕ) → IsEntered e → IsDone e i.ran i.from limit i.done → i.done.cut ≡ Turns at
     → EndsWith e i (Some (outcome.OutOfTurns at))
-ends_want e i limit at is d cut =
+ends_want loops e i limit at is d cut =
     let says : CutSays e i.ran (before e i.from) limit (before e i.done.to) (Turns at) = subst (CutSays e i.ran (before e i.from) limit (before e i.done.to)) cut d.cut in (
-      ends_otherwise e (before e i.done.to) (outcome.OutOfTurns at) is d.within.1 says.2 (want_not_done at),
+      ends_otherwise loops e (before e i.done.to) (outcome.OutOfTurns at) is d.within.1 says.2 (want_not_done at),
       (λ on. absurd (subst GoesOnBehind cut on)),
       (λ same. absurd (want_not_done at same)),
     )

@@ -27,10 +27,9 @@ use Rattle.morta_task.specs.Promise.{Promise}
 use Rattle.morta_task.specs.Legal.{begun, EndsAll}
 use Rattle.morta_exec.specs.Began.{Began, all_entries, whole_run}
 use Rattle.morta_exec.specs.Places.{most, ClosedBy, ComesBehind, after_interval}
-use Rattle.morta_exec.specs.EntryRun.{whole_loop, HasEnded}
+use Rattle.morta_exec.specs.EntryRun.{whole_loop, LoopsOfEntries, HasEnded}
 use Rattle.morta_exec.specs.MainRun.{Between, AtEntry, IsOver, IsOpened, to_come}
 use Rattle.morta_exec.proofs.Growing.{some_same, front_is, extends_same}
-use Rattle.morta_exec.proofs.Loops.{loop_sizes}
 use Rattle.morta_exec.proofs.Coming.{Prints, opening, numbered_is, next_at}
 
 loop_run : (o : Opening) (code : RegionCode) (n : ℕ) (m : Memory) → run (For code.looped) n m ≡ whole_loop (entered o code.looped code.plan n m)
@@ -132,9 +131,11 @@ listed_on es listed new more e k all is count =
 store_is : (e : EntryView) (store : Memory) (end : Outcome) → whole_loop e ≡ record { store = store; end = end } → (whole_loop e).store ≡ store
 store_is e store end h = ap (λ (r : Ran). r.store) h
 
-pub ready_on : (P : ℕ → ℕ → Type 0) (e : EntryView) (store : Memory) (end : Outcome) → IsEntered e → whole_loop e ≡ record { store = store; end = end }
+pub ready_on : LoopsOfEntries → (P : ℕ → ℕ → Type 0) (e : EntryView) (store : Memory) (end : Outcome) → IsEntered e → whole_loop e ≡ record { store = store; end = end }
     → P (length e.store.scalars) (length e.store.arrays) → P (length store.scalars) (length store.arrays)
-ready_on P e store end is h p = subst (λ (m : Memory). P (length m.scalars) (length m.arrays)) (store_is e store end h) (loop_sizes P e is p)
+ready_on loops P e store end is h p =
+    subst (λ (m : Memory). P (length m.scalars) (length m.arrays)) (store_is e store end h)
+    (subst (λ d. P d (length (whole_loop e).store.arrays)) (sym (loops.scalars e is)) (subst (λ a. P (length e.store.scalars) a) (sym (loops.arrays e is)) p))
 
 -- the loop of the entry is done, and the run goes on
 pub between_on : {M : Type 0} (promise : Promise M) (left : Ran → Course → Type 0) (b : Began M) (old now : M) (log new : LogView) (e : EntryView) (store : Memory) (end : Outcome)

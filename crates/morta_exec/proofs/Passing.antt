@@ -20,9 +20,8 @@ use Rattle.morta_exec.specs.Places.{most, ComesBehind, after_interval}
 use Rattle.morta_exec.specs.Faults.{drive_fault}
 use Rattle.morta_exec.specs.Puts.{HasPut}
 use Rattle.morta_exec.specs.Standing.{StandsBetween, HasRunInterval}
-use Rattle.morta_exec.specs.EntryRun.{whole_loop, EndsWith, GoesOnAt, HasStopped, IsOn}
+use Rattle.morta_exec.specs.EntryRun.{whole_loop, LoopsOfEntries, EndsWith, GoesOnAt, HasStopped, IsOn}
 use Rattle.morta_exec.proofs.Growing.{last_more, extends_chain}
-use Rattle.morta_exec.proofs.Loops.{after_prints, loop_prints}
 use Rattle.morta_exec.proofs.Ending.{cut_done}
 use Rattle.morta_exec.proofs.Stopping.{stops_sending}
 
@@ -37,12 +36,12 @@ pub last_run : (e : EntryView) (from : ℤ) (old new : LogView) (k : Handoff) (i
 last_run e from old new k i t = ap last_in t.added ∙ last_more old.intervals i
 
 -- an interval only adds to what is printed
-pub interval_prints : (e : EntryView) (h k : Handoff) (old new : LogView) (i : Interval) → IsHandoff e h → HasRunInterval e h.next old new k i → Extends h.store.printed k.store.printed
-interval_prints e h k old new i state t =
+pub interval_prints : LoopsOfEntries → (e : EntryView) (h k : Handoff) (old new : LogView) (i : Interval) → IsHandoff e h → HasRunInterval e h.next old new k i → Extends h.store.printed k.store.printed
+interval_prints loops e h k old new i state t =
     let on : before e h.next ≤ before e i.done.to = subst (λ z. before e z ≤ before e i.done.to) t.begins t.done.begins in
     subst (λ (r : Ran). Extends r.store.printed k.store.printed) state.state
     (subst (λ (m : Memory). Extends (state_after e (before e h.next)).store.printed m.printed) (sym t.hands_on.store)
-    (after_prints e (before e h.next) (before e i.done.to) on))
+    (loops.grows e (before e h.next) (before e i.done.to) on))
 
 -- the numbers up to a store were put: so they are the front of those that were printed since
 pub shown_front : (xs ys : List ℤ) (sent : Sent) (shown : List ℤ) → shown ≡ xs → Extends xs ys → HasPut sent xs
@@ -53,11 +52,11 @@ shown_front xs ys sent shown same on put = (
 )
 
 -- what is printed behind an interval is printed in the end
-leads_on : {M : Type 0} (b : Began M) (e : EntryView) (from : ℤ) (old new : LogView) (k : Handoff) (i : Interval)
+leads_on : {M : Type 0} (loops : LoopsOfEntries) (b : Began M) (e : EntryView) (from : ℤ) (old new : LogView) (k : Handoff) (i : Interval)
     → IsOn b e → HasRunInterval e from old new k i → Extends k.store.printed (whole_run b).store.printed
-leads_on b e from old new k i on t =
+leads_on loops b e from old new k i on t =
     extends_chain k.store.printed (whole_loop e).store.printed (whole_run b).store.printed
-    (subst (λ (r : Memory). Extends r.printed (whole_loop e).store.printed) (sym t.hands_on.store) (loop_prints e (before e i.done.to) on.of_run.entered t.done.within.1))
+    (subst (λ (r : Memory). Extends r.printed (whole_loop e).store.printed) (sym t.hands_on.store) (loops.leads e (before e i.done.to) on.of_run.entered t.done.within.1))
     on.leads
 
 -- the place behind an interval
@@ -71,11 +70,11 @@ pub added_one : (e : EntryView) (from : ℤ) (old new : LogView) (k : Handoff) (
 added_one e from old new k i t = ap length t.added ∙ length-append old.intervals (i ∷ [])
 
 -- the sink broke off at the lines of an interval
-pub stopped_interval : {M : Type 0} (promise : Promise M) (b : Began M) (now : M) (e : EntryView) (from : ℤ) (old new : LogView) (k : Handoff) (i : Interval) (sent : Sent) (fault : SendFault)
+pub stopped_interval : {M : Type 0} (loops : LoopsOfEntries) (promise : Promise M) (b : Began M) (now : M) (e : EntryView) (from : ℤ) (old new : LogView) (k : Handoff) (i : Interval) (sent : Sent) (fault : SendFault)
     → IsOn b e → StandsBetween promise b now new → HasRunInterval e from old new k i → length old.intervals < most
     → BreaksOff sent (number_lines k.store.printed) fault → sent.faults_before ≤ sent.faults
     → HasStopped promise b new sent (drive_fault fault)
-stopped_interval promise b now e from old new k i sent fault on stands t room broken later = record {
+stopped_interval loops promise b now e from old new k i sent fault on stands t room broken later = record {
   log_stands = stands.so_far;
   later = later;
   stops = stops_sending (all_entries b) (whole_run b).store k.store new.intervals sent fault
@@ -83,7 +82,7 @@ stopped_interval promise b now e from old new k i sent fault on stands t room br
         few = omega (arith, room, added_one e from old new k i t);
         comes = behind_interval (all_entries b) (whole_run b).store e from old new k i on.of_run.named t;
       })
-      broken (leads_on b e from old new k i on t);
+      broken (leads_on loops b e from old new k i on t);
 }
 
 -- behind an interval the entry goes on, or its loop has ended

@@ -28,9 +28,9 @@ use Rattle.morta_exec.specs.Faults.{drive_fault}
 use Rattle.morta_exec.specs.Puts.{HasPut}
 use Rattle.morta_exec.specs.declared.start.Pending.{Pending}
 use Rattle.morta_exec.specs.Standing.{StandsBefore}
-use Rattle.morta_exec.specs.EntryRun.{whole_loop, HasStopped, IsOn}
+use Rattle.morta_exec.specs.EntryRun.{whole_loop, LoopsOfEntries, HasStopped, IsOn}
 use Rattle.morta_exec.proofs.Growing.{extends_chain}
-use Rattle.morta_exec.proofs.Loops.{before_low, loop_prints}
+use Rattle.morta_exec.proofs.Loops.{before_low}
 
 -- what a fault that is handed on has
 pub handed_on : {T : Type 0} (P : DriveFault → Type 0) (r : Result T DriveFault) (fault : DriveFault) → IsErrAnd r (λ e. e ≡ fault) → P fault → IfErr r P
@@ -59,18 +59,18 @@ behind_by es end is (Some i) e from is_last (inr next) named =
     (before_entry e (subst (ClosedBy es) (sym is_last) next.closed) (ap (slice_get es) (sym later) ∙ named))
 
 -- what is printed at the place of a handoff is printed in the end
-handoff_prints : {M : Type 0} (b : Began M) (e : EntryView) (h : Handoff) → IsOn b e → IsHandoff e h → Extends h.store.printed (whole_run b).store.printed
-handoff_prints b e h on state =
+handoff_prints : {M : Type 0} (loops : LoopsOfEntries) (b : Began M) (e : EntryView) (h : Handoff) → IsOn b e → IsHandoff e h → Extends h.store.printed (whole_run b).store.printed
+handoff_prints loops b e h on state =
     extends_chain h.store.printed (whole_loop e).store.printed (whole_run b).store.printed
-    (subst (λ (r : Ran). Extends r.store.printed (whole_loop e).store.printed) state.state (loop_prints e (before e h.next) on.of_run.entered state.within.1))
+    (subst (λ (r : Ran). Extends r.store.printed (whole_loop e).store.printed) state.state (loops.leads e (before e h.next) on.of_run.entered state.within.1))
     on.leads
 
 -- a run stops where an interval would come next, of which all before was put
-stops_at : {M : Type 0} (promise : Promise M) (b : Began M) (now : M) (e : EntryView) (log : LogView) (p : Pending) (sent : Sent) (fault : DriveFault)
+stops_at : {M : Type 0} (loops : LoopsOfEntries) (promise : Promise M) (b : Began M) (now : M) (e : EntryView) (log : LogView) (p : Pending) (sent : Sent) (fault : DriveFault)
     → IsOn b e → StandsBefore promise b now e log p → HasPut sent p.handoff.store.printed → length log.intervals ≤ most
     → HasCauseOf fault (all_entries b) log.intervals p.handoff.store sent
     → StopsShort (all_entries b) (whole_run b).store log.intervals sent fault
-stops_at promise b now e log p sent fault on s put few cause =
+stops_at loops promise b now e log p sent fault on s put few cause =
     let es = all_entries b in
     let end = (whole_run b).store in
     record {
@@ -81,25 +81,25 @@ stops_at promise b now e log p sent fault on s put few cause =
             (behind_by es end log.intervals (last_in log.intervals) e p.handoff.next refl s.next on.of_run.named);
       };
       put = whole_front sent.before sent.after (number_lines p.handoff.store.printed) put.put;
-      printed = handoff_prints b e p.handoff on s.state;
+      printed = handoff_prints loops b e p.handoff on s.state;
       cause = cause;
     }
 
 -- for want of memory
-pub stopped_memory : {M : Type 0} (promise : Promise M) (b : Began M) (now : M) (e : EntryView) (log : LogView) (p : Pending) (sent : Sent)
+pub stopped_memory : {M : Type 0} (loops : LoopsOfEntries) (promise : Promise M) (b : Began M) (now : M) (e : EntryView) (log : LogView) (p : Pending) (sent : Sent)
     → IsOn b e → StandsBefore promise b now e log p → HasPut sent p.handoff.store.printed → length log.intervals < most
     → HasStopped promise b log sent NoMemory
-stopped_memory promise b now e log p sent on s put room = record {
+stopped_memory loops promise b now e log p sent on s put room = record {
   log_stands = s.stands.so_far;
   later = omega (arith, put.kept);
-  stops = stops_at promise b now e log p sent NoMemory on s put (omega (arith, room)) tt;
+  stops = stops_at loops promise b now e log p sent NoMemory on s put (omega (arith, room)) tt;
 }
 
 -- as the log is full
-pub stopped_full : {M : Type 0} (promise : Promise M) (b : Began M) (now : M) (e : EntryView) (log : LogView) (p : Pending) (sent : Sent)
+pub stopped_full : {M : Type 0} (loops : LoopsOfEntries) (promise : Promise M) (b : Began M) (now : M) (e : EntryView) (log : LogView) (p : Pending) (sent : Sent)
     → IsOn b e → StandsBefore promise b now e log p → HasPut sent p.handoff.store.printed → length log.intervals ≡ most
     → HasStopped promise b log sent LogFull
-stopped_full promise b now e log p sent on s put full =
+stopped_full loops promise b now e log p sent on s put full =
     let next : StartsNext (all_entries b) log.intervals p.handoff.store = record {
       entry = e;
       named = on.of_run.named;
@@ -110,7 +110,7 @@ stopped_full promise b now e log p sent on s put full =
     record {
       log_stands = s.stands.so_far;
       later = omega (arith, put.kept);
-      stops = stops_at promise b now e log p sent LogFull on s put (subst (λ k. k ≤ most) (sym full) (omega arith)) (full, next, put.put);
+      stops = stops_at loops promise b now e log p sent LogFull on s put (subst (λ k. k ≤ most) (sym full) (omega arith)) (full, next, put.put);
     }
 
 -- a place behind the log's intervals whose numbers were broken off by a fault of the sink

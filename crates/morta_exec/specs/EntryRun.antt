@@ -1,15 +1,16 @@
 -- What the run of an entry does.
-use Rattle.std.specs.Prelude.{◌≡◌, ◌<◌, ◌≤◌, length, None, Some}
+use Rattle.std.specs.Prelude.{◌≡◌, ◌≢◌, ℕ, ◌<◌, ◌≤◌, length, None, Some}
+use Rattle.std.specs.Int.{int_gap}
 use Rattle.std.specs.declared.option.Option.{Option}
 use Rattle.fate_io.specs.Sending.{Sent}
 use Rattle.nona_tree.specs.declared.outcomes.Outcome.{Outcome}
 use Rattle.nona_tree.specs.declared.outcomes.Outcome.TheVariants.{Done}
 use Rattle.nona_tree.specs.declared.trees.Stmt.{For}
 use Rattle.nona_tree.specs.Memory.{Memory, Extends}
-use Rattle.nona_tree.specs.Run.{Ran, run, Reaches}
+use Rattle.nona_tree.specs.Run.{Ran, Reaches, run, done, starved}
 use Rattle.morta_task.specs.declared.intervals.Interval.{Interval}
 use Rattle.morta_task.specs.declared.intervals.Handoff.{Handoff}
-use Rattle.morta_task.specs.Entries.{EntryView, last, before, state_after}
+use Rattle.morta_task.specs.Entries.{EntryView, IsEntered, last, before, state_after}
 use Rattle.morta_task.specs.LogView.{LogView}
 use Rattle.morta_task.specs.Promise.{Promise}
 use Rattle.morta_task.specs.Legal.{last_in, GoesOnBehind, IsClosed}
@@ -22,6 +23,21 @@ use Rattle.morta_exec.specs.Standing.{StandsBetween, StandsBefore, IsOfRun}
 -- the run of the whole loop of an entry
 unfoldable pub whole_loop : EntryView → Ran
 whole_loop e = run (For e.looped) e.turns e.store
+
+-- How the whole loop of an entry stands to the states after its iterations: it ends with the last of them, out of turns
+-- where it has more; it ends with one that ended otherwise than done; what is printed only grows; and the loop leaves as many
+-- scalars and arrays as there were.
+pub record LoopsOfEntries : Type 0 where
+  pub whole : (e : EntryView) (m : Memory) → IsEntered e → state_after e (before e (last e)) ≡ done m → int_gap e.low e.high ≤ e.turns
+      → whole_loop e ≡ done m
+  pub starves : (e : EntryView) (m : Memory) → IsEntered e → state_after e (before e (last e)) ≡ done m → e.turns < int_gap e.low e.high
+      → whole_loop e ≡ starved e.looped.at m
+  pub over : (e : EntryView) (k : ℕ) → IsEntered e → k ≤ before e (last e) → (state_after e k).end ≢ Done → whole_loop e ≡ state_after e k
+  pub grows : (e : EntryView) (j k : ℕ) → j ≤ k → Extends (state_after e j).store.printed (state_after e k).store.printed
+  pub leads : (e : EntryView) (k : ℕ) → IsEntered e → k ≤ before e (last e)
+      → Extends (state_after e k).store.printed (whole_loop e).store.printed
+  pub scalars : (e : EntryView) → IsEntered e → length (whole_loop e).store.scalars ≡ length e.store.scalars
+  pub arrays : (e : EntryView) → IsEntered e → length (whole_loop e).store.arrays ≡ length e.store.arrays
 
 -- An entry goes on behind what an interval did; or its whole loop has ended so, in the store behind that interval.
 abbrev pub EndsWith : EntryView → Interval → Option Outcome → Type 0

@@ -11,7 +11,7 @@ ghost use Rattle.morta_exec.specs.Log.{ServesAll};
 ghost use Rattle.morta_exec.specs.Places.{most};
 ghost use Rattle.morta_exec.specs.Puts.{HasPut};
 ghost use Rattle.morta_exec.specs.Standing.{StandsBefore};
-ghost use Rattle.morta_exec.specs.EntryRun.{whole_loop, EndsWith, HasEnded, GoesOnAt, HasStopped, IsOn};
+ghost use Rattle.morta_exec.specs.EntryRun.{whole_loop, LoopsOfEntries, EndsWith, HasEnded, GoesOnAt, HasStopped, IsOn};
 
 use crate::fault::DriveFault;
 use crate::interval_run::run_interval;
@@ -21,10 +21,21 @@ use fate_io::Sink;
 use morta_task::{Asker, Cut, Entry, Handoff, Image, Interval, Log, Runner};
 use nona_num::gap;
 use nona_store::Store;
-use nona_tree::Outcome;
+use nona_tree::{Outcome, after_next, lengths_stay, loop_is_after, printed_grows, scalars_stay};
 
 /// The most intervals that a log has.
 pub const MOST: usize = 1_048_576;
+
+/// Says how the loop of an entry stands to its iterations. It does nothing when called.
+pub fn loops_of_entries()
+    ensures { LoopsOfEntries }
+{
+    after_next();
+    loop_is_after();
+    printed_grows();
+    scalars_stay();
+    lengths_stay();
+}
 
 /// How many turns lie between the bounds of an entry's loop.
 fn span(entry: &Entry) -> u64
@@ -39,6 +50,7 @@ fn whole_end(image: &Image, entry: &Entry) -> Outcome
     requires region { IsIn entry.now image.now }
     ensures { (m : Memory) → state_after entry.now (before entry.now (last entry.now)) ≡ done m → Reaches (whole_loop entry.now) m result }
 {
+    loops_of_entries();
     if span(entry) <= entry.turns() {
         Outcome::Done
     } else {
@@ -55,6 +67,7 @@ fn loop_end(image: &Image, entry: &Entry, interval: &Interval) -> Option<Outcome
     requires done { IsDone entry.now interval.now.ran interval.now.from (limit_of entry.now interval.now.from interval.now.asked.until) interval.now.done }
     ensures { EndsWith entry.now interval.now result }
 {
+    loops_of_entries();
     match interval.done.cut {
         Cut::Trap(trap) => Some(Outcome::Trap(trap)),
         Cut::Turns { at } => Some(Outcome::OutOfTurns { at }),
@@ -88,6 +101,7 @@ fn run_and_show<M: Runner + Asker, K: Sink>(
     ensures added { OnOk result (length log.new.intervals ≡ length log.old.intervals + 1) }
     ensures stopped { IfErr result (λ fault. HasStopped M.promise (began start.now) log.new (sent_since K.written K.faults start.now.out.value out.new) fault) }
 {
+    loops_of_entries();
     let shown = pending.handoff.store.printed().len();
     let (after, interval) = run_interval(start, entry, pending, morta, log)?;
     show(start, &after.store, shown, out)?;
@@ -115,6 +129,7 @@ pub fn run_entry<M: Runner + Asker, K: Sink>(
     ensures added { OnOk result (length log.old.intervals < length log.new.intervals) }
     ensures stopped { IfErr result (λ fault. HasStopped M.promise (began start.now) log.new (sent_since K.written K.faults start.now.out.value out.new) fault) }
 {
+    loops_of_entries();
     let mut pending = pending;
     while log.intervals().len() < MOST {
         let (after, end) = run_and_show(start, entry, pending, morta, out, log)?;

@@ -14,7 +14,7 @@ ghost use Rattle.morta_exec.specs.Puts.{HasPut};
 ghost use Rattle.morta_exec.specs.EntryRun.{HasStopped};
 ghost use Rattle.morta_exec.specs.MainRun.{Between, AtEntry, IsOver, GoesOnTo, IsReadyTo, IsOpened, BeginsEntry};
 
-use crate::entry_run::run_entry;
+use crate::entry_run::{loops_of_entries, run_entry};
 use crate::fault::DriveFault;
 use crate::shown::show;
 use crate::start::{Arrival, Pending, Start};
@@ -92,6 +92,7 @@ fn run_region<F: MainFrame, M: Runner + Asker, K: Sink>(
     ensures added { OnOk result (length log.old.intervals < length log.new.intervals) }
     ensures stopped { IfErr result (λ fault. HasStopped M.promise (began start.now) log.new (sent_since K.written K.faults start.now.out.value out.new) fault) }
 {
+    loops_of_entries();
     let Arrival { entry, pending } = arrival;
     let (mut store, end) = run_entry(start, &entry, pending, morta, out, log)?;
     match end {

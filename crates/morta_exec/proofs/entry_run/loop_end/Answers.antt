@@ -3,10 +3,10 @@ use Rattle.morta_exec.proofs.Ending.{cut_goes_on, ends_trap, ends_want, ends_who
 use Rattle.morta_exec.proofs.entry_run.loop_end.Goals as goal
 
 pub returns-in-Trap : goal.returns-in-Trap
-returns-in-Trap c = ends_trap c.args.entry.now c.args.interval.now _ c.in-Trap.trap c.requires.entered c.requires.done c.in-Trap.is
+returns-in-Trap c = ends_trap c.loops_of_entries.ensures c.args.entry.now c.args.interval.now _ c.in-Trap.trap c.requires.entered c.requires.done c.in-Trap.is
 
 pub returns-in-Turns : goal.returns-in-Turns
-returns-in-Turns c = ends_want c.args.entry.now c.args.interval.now _ c.in-Turns.at c.requires.entered c.requires.done c.in-Turns.is
+returns-in-Turns c = ends_want c.loops_of_entries.ensures c.args.entry.now c.args.interval.now _ c.in-Turns.at c.requires.entered c.requires.done c.in-Turns.is
 
 pub returns-then-interval-last : goal.returns-then-interval-last
 returns-then-interval-last c =

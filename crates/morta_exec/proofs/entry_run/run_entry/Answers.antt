@@ -16,5 +16,5 @@ loop-pending-preserved g c = record {
 -- the log is full
 pub returns-clause-stopped : goal.returns-clause-stopped
 returns-clause-stopped g c =
-    stopped_full g.M.Morta.promise (began c.args.start.now) c.loop-pending.morta c.args.entry.now c.loop-pending.log c.loop-pending.pending _
+    stopped_full c.loops_of_entries.ensures g.M.Morta.promise (began c.args.start.now) c.loop-pending.morta c.args.entry.now c.loop-pending.log c.loop-pending.pending _
     c.requires.entry c.loop-pending.invariant.stands c.loop-pending.invariant.put (omega (arith, c.loop-pending.invariant.few, ap length c.intervals.ensures, c.loop-pending-test.false))

@@ -8,7 +8,7 @@ use Rattle.morta_exec.proofs.main_run.run_region.Goals as goal
 pub leave-requires : goal.leave-requires
 leave-requires g c =
     let n = c.args.start.now.turns in
-    record { fits = (n, ready_on (g.F.MainFrame.ready c.args.frame.now n) c.args.arrival.entry c.in_ok-store.store c.in_ok-store.end c.requires.at.on.of_run.entered c.in_ok-store.ensures.ended.reaches c.requires.ready) }
+    record { fits = (n, ready_on c.loops_of_entries.ensures (g.F.MainFrame.ready c.args.frame.now n) c.args.arrival.entry c.in_ok-store.store c.in_ok-store.end c.requires.at.on.of_run.entered c.in_ok-store.ensures.ended.reaches c.requires.ready) }
 
 pub returns-in-Done-clause-goes_on : goal.returns-in-Done-clause-goes_on
 returns-in-Done-clause-goes_on g c =
@@ -18,7 +18,7 @@ returns-in-Done-clause-goes_on g c =
 
 pub returns-in-Done-clause-ready : goal.returns-in-Done-clause-ready
 returns-in-Done-clause-ready g c =
-    ready_on (g.F.MainFrame.ready c.args.frame.now c.args.start.now.turns) c.args.arrival.entry c.in_ok-store.store c.in_ok-store.end
+    ready_on c.loops_of_entries.ensures (g.F.MainFrame.ready c.args.frame.now c.args.start.now.turns) c.args.arrival.entry c.in_ok-store.store c.in_ok-store.end
     c.requires.at.on.of_run.entered c.in_ok-store.ensures.ended.reaches c.requires.ready
 
 pub returns-clause-goes_on : goal.returns-clause-goes_on
