@@ -60,7 +60,7 @@ tells_usage command looked sent told answers = record {
   only = λ e. (
       let a = answered command looked sent told (λ f. omega (arith, e, f)) (λ f. omega (arith, e, f)) answers in
       usage_by command looked a.added told a.printed a.later a.by e
-    );
+      );
   always = λ e. usage_always looked sent told (subst (λ (c : Option Command). Answers c looked sent told) e answers);
 }
 

@@ -96,8 +96,10 @@ drive_behind : (tree : Program) (es : List EntryView) (ran : Ran) (stands : LogV
 drive_behind tree es ran stands memory asked report told printed later written w same k (is_ran l s ends er ep el) =
     inr (cut_behind ran l written w report told (same ∙ ap (λ (x : List ℕ). x ++ w) ep) er k)
 drive_behind tree es ran stands memory asked report told printed later written w same k (is_full l m few er ep el) =
-    inl (record { outcome = k.outcome ∙ ap (λ (t : Told). t.outcome) er; store = k.store ∙ ap (λ (t : Told). t.store) er },
-    ap (λ (x : LogView). length x.intervals) (k.log ∙ ap (λ (t : Told). t.log) er) ∙ few)
+    inl (
+      record { outcome = k.outcome ∙ ap (λ (t : Told). t.outcome) er; store = k.store ∙ ap (λ (t : Told). t.store) er },
+      ap (λ (x : LogView). length x.intervals) (k.log ∙ ap (λ (t : Told). t.log) er) ∙ few,
+    )
 
 drive_cut : (tree : Program) (es : List EntryView) (ran : Ran) (stands : LogView → Type 0) (memory asked : Bool) (sent : Sent) (told : Told) (front written : List ℕ)
     → sent.before ≡ Some front → sent.after ≡ Some (front ++ written) → Breaks (DueOfDrive tree es ran stands memory asked) sent told

@@ -1,5 +1,6 @@
 -- A command that was read, as contracts see it.
-use Rattle.std.specs.Prelude.{◌≤◌}
+use Rattle.std.specs.Prelude.{◌≡◌, ◌≤◌, MatchOption, None, Some}
+use Rattle.std.specs.declared.option.Option.{Option}
 use Rattle.std.specs.Option.{option_copied}
 use Rattle.parcae.specs.declared.words.Run.{Run}
 use Rattle.parcae.specs.declared.words.Command.{Command as Read}
@@ -15,6 +16,10 @@ task_of r = record { file = r.file.now; input = option_copied r.input; turns = r
 abbrev pub command_of : Read → Command
 command_of (Seq r) = seq (task_of r)
 command_of (Replay r script log) = replay (task_of r) script.now log
+
+-- what was read of words is what they mean
+abbrev pub IsMeant : Option Read → Option Command → Type 0
+IsMeant read meaning = MatchOption read (meaning ≡ None) (λ c. meaning ≡ Some (command_of c))
 
 -- the turns of a loop are from 1 to 10^12
 abbrev pub HasTurns : Read → Type 0

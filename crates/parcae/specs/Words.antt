@@ -78,7 +78,8 @@ seq_words words =
 -- `FILE [INPUT] --script S [--turns N] [--memory] [--log]`
 abbrev pub replay_words : List (List ℕ) → Option Command
 replay_words words =
-    with_name words (λ file a. with_input a (λ input b. with_script b (λ script c. with_turns c (λ turns d. with_flag memory_flag d (λ memory e. with_flag log_flag e (λ log f.
+    with_name words (λ file a. with_input a (λ input b. with_script b (λ script c. with_turns c (λ turns d.
+    with_flag memory_flag d (λ memory e. with_flag log_flag e (λ log f.
     at_end f (replay (record { file = file; input = input; turns = turns; memory = memory }) script log)))))))
 
 -- the command that words are, or none

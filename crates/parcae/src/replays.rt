@@ -49,6 +49,7 @@ pub fn replay_script<K: Sink>(
 {
     checked_is_scoped();
     declared_stays();
+    let tree = program.program();
     let Ok(image) = replay_image(alloc, program) else {
         return bare(alloc, Status::NoMemory);
     };
@@ -62,9 +63,12 @@ pub fn replay_script<K: Sink>(
     let mut weave = Weave::new(script, CAPACITY);
     let mut log = Log::new(alloc);
     match drive(alloc, &image, from, &mut weave, out, &mut log) {
-        Ok(run) => finish(alloc, program.program(), run, log, asked, out),
+        Ok(run) => finish(alloc, tree, run, log, asked, out),
         Err(DriveFault::WriteFailed) => logged(Status::WriteFailed, log),
         Err(DriveFault::NoMemory) => logged(Status::NoMemory, log),
-        Err(DriveFault::LogFull) => once_sent(send(out, b"log full\n"), logged(Status::LogFull, log)),
+        Err(DriveFault::LogFull) => once_sent(
+            send(out, b"log full\n"),
+            logged(Status::LogFull, log),
+        ),
     }
 }

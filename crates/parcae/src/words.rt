@@ -2,7 +2,7 @@ ghost use Rattle.std.specs.Prelude.{◌≡◌, ◌≤◌, ◌∷◌, [], ℕ, Bo
 ghost use Rattle.std.specs.Option.{option_copied};
 ghost use Rattle.std.specs.declared.option.Option.{Option};
 ghost use Rattle.parcae.specs.Words.{Command as Meaning, is_name, with_name, with_input, with_turns, with_flag, with_script, seq_words, replay_words, meant};
-ghost use Rattle.parcae.specs.Meant.{command_of, HasTurns};
+ghost use Rattle.parcae.specs.Meant.{IsMeant, HasTurns};
 ghost use Rattle.parcae.specs.declared.words.TheConstants.{TURN_LIMIT};
 
 use nona_text::number_within;
@@ -150,7 +150,7 @@ fn take_script(words: &[String]) -> Option<(&str, &[String])>
 
 /// The words behind `seq`: `FILE [INPUT] [--turns N] [--memory]`.
 fn seq_words(words: &[String]) -> Option<Command<'_>>
-    ensures meant { MatchOption result (seq_words (map string_bytes words.now) ≡ None) (λ c. seq_words (map string_bytes words.now) ≡ Some (command_of c)) }
+    ensures meant { IsMeant result (seq_words (map string_bytes words.now)) }
     ensures turns { IfSome result HasTurns }
 {
     let (file, rest) = take_name(words)?;
@@ -170,7 +170,7 @@ fn seq_words(words: &[String]) -> Option<Command<'_>>
 
 /// The words behind `replay`: `FILE [INPUT] --script S [--turns N] [--memory] [--log]`.
 fn replay_words(words: &[String]) -> Option<Command<'_>>
-    ensures meant { MatchOption result (replay_words (map string_bytes words.now) ≡ None) (λ c. replay_words (map string_bytes words.now) ≡ Some (command_of c)) }
+    ensures meant { IsMeant result (replay_words (map string_bytes words.now)) }
     ensures turns { IfSome result HasTurns }
 {
     let (file, rest) = take_name(words)?;
@@ -193,7 +193,7 @@ fn replay_words(words: &[String]) -> Option<Command<'_>>
 
 /// The command that words are, where they are one.
 pub fn command_of(words: &[String]) -> Option<Command<'_>>
-    ensures meant { MatchOption result (meant (map string_bytes words.now) ≡ None) (λ c. meant (map string_bytes words.now) ≡ Some (command_of c)) }
+    ensures meant { IsMeant result (meant (map string_bytes words.now)) }
     ensures turns { IfSome result HasTurns }
 {
     match split_first(words) {

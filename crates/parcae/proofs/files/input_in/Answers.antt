@@ -1,4 +1,5 @@
 use Rattle.parcae.specs.declared.refusal.Source.TheVariants.{Input}
+use Rattle.fate_io.specs.Reading.{looked_since}
 use Rattle.parcae.specs.Files.{seen}
 use Rattle.parcae.proofs.Loading.{stopped_texts}
 use Rattle.parcae.proofs.files.input_in.Goals as goal
@@ -6,5 +7,6 @@ use Rattle.parcae.proofs.files.input_in.Goals as goal
 -- the text was read, and gives nothing
 pub returns-in-Ok-clause-none : goal.returns-in-Ok-clause-none
 returns-in-Ok-clause-none g c =
-    rw c.in-Some.is (stopped_texts c.numbers_in.result Input (seen g.S.Shelf.held c.args.shelf.now) c.in-Some.name.now c.deref.result.now _ c.in-Ok.ensures.read
+    let looked = looked_since g.S.Shelf.held g.S.Shelf.failed c.args.shelf.now c.read_file.new.shelf in
+    rw c.in-Some.is (stopped_texts c.numbers_in.result Input (seen g.S.Shelf.held c.args.shelf.now) c.in-Some.name.now c.deref.result.now looked c.in-Ok.ensures.read
     (rw c.deref.ensures.value c.in-Ok.ensures.content) c.numbers_in.ensures.refused)

@@ -1,4 +1,5 @@
 use Rattle.parcae.specs.declared.refusal.Source.TheVariants.{Script}
+use Rattle.fate_io.specs.Reading.{looked_since}
 use Rattle.parcae.specs.Files.{seen}
 use Rattle.parcae.proofs.Loading.{stopped_texts}
 use Rattle.parcae.proofs.files.script_in.Goals as goal
@@ -6,5 +7,6 @@ use Rattle.parcae.proofs.files.script_in.Goals as goal
 -- the text was read, and gives nothing
 pub returns-in-Ok-clause-none : goal.returns-in-Ok-clause-none
 returns-in-Ok-clause-none g c =
-    stopped_texts c.script_of.result Script (seen g.S.Shelf.held c.args.shelf.now) c.args.file.now c.deref.result.now _ c.in-Ok.ensures.read
+    let looked = looked_since g.S.Shelf.held g.S.Shelf.failed c.args.shelf.now c.read_file.new.shelf in
+    stopped_texts c.script_of.result Script (seen g.S.Shelf.held c.args.shelf.now) c.args.file.now c.deref.result.now looked c.in-Ok.ensures.read
     (rw c.deref.ensures.value c.in-Ok.ensures.content) c.script_of.ensures.refused

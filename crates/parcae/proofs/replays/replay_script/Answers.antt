@@ -1,8 +1,9 @@
-use Rattle.std.proofs.Common.{◌≡◌, ap, sym, ◌∙◌, subst, refl, List}
+use Rattle.std.proofs.Common.{◌≡◌, ap, sym, ◌∙◌, subst, refl, List, length}
 use Rattle.std.specs.Io.KnownBytes.{Appends}
 use Rattle.fate_io.specs.Sending.{Sent, sent_since}
 use Rattle.nona_tree.specs.Run.{Ran, meaning_of}
 use Rattle.nona_tree.specs.Memory.{Memory}
+use Rattle.nona_tree.specs.Scope.{AreScoped}
 use Rattle.morta_task.specs.Entries.{EntryView}
 use Rattle.morta_task.specs.ImageView.{ImageView}
 use Rattle.morta_task.specs.Legal.{EndsAll, last_in}
@@ -14,7 +15,7 @@ use Rattle.morta_exec.specs.declared.fault.DriveFault.TheVariants as drive
 use Rattle.morta_exec.specs.declared.start.Beginning.{Beginning}
 use Rattle.morta_exec.specs.Log.{ServesAll}
 use Rattle.parcae.specs.declared.replays.TheConstants.{CAPACITY}
-use Rattle.parcae.specs.Told.{told_of, finished}
+use Rattle.parcae.specs.Told.{told_of, finished, once_sent}
 use Rattle.parcae.specs.Ends.{Ends}
 use Rattle.parcae.specs.Due.{replay_image, entries_in, where_asked, behind_numbers, DueOfDrive, DueOfReplay, drive_ran, drive_unbegun}
 use Rattle.parcae.proofs.Ending.{ends_unbegun, ends_behind}
@@ -25,9 +26,20 @@ pub drive-requires-clause-serves : goal.drive-requires-clause-serves
 drive-requires-clause-serves g c =
     subst (λ (i : ImageView). ServesAll weave_promise c.new-weave.result i) (sym c.in-Ok.ensures) (serves_all c.args.program.now c.new-weave.result)
 
+pub drive-requires-clause-scoped : goal.drive-requires-clause-scoped
+drive-requires-clause-scoped g c =
+    subst (λ (i : ImageView). AreScoped i.main (length c.in-Ok-start.store.scalars) (length c.in-Ok-start.store.arrays)) (sym c.in-Ok.ensures)
+    (subst (λ (m : Memory). AreScoped c.args.program.now.body (length m.scalars) (length m.arrays)) (sym c.in-Ok-start.ensures)
+    (c.checked_is_scoped.ensures.begun c.args.program.now c.args.input.items c.program.ensures.checked))
+
+-- memory ran out before the image was there
+pub returns-in_default : goal.returns-in_default
+returns-in_default g c = rw c.bare.ensures (ends_unbegun _ (g.K.Sink.written c.args.out.now) (g.K.Sink.faults c.args.out.now) drive_unbegun)
+
 -- memory ran out before the store was there
-pub returns-in-Err-start : goal.returns-in-Err-start
-returns-in-Err-start g c = rw c.bare.ensures (ends_unbegun _ (g.K.Sink.written c.args.out.now) (g.K.Sink.faults c.args.out.now) drive_unbegun)
+pub returns-in_default-start : goal.returns-in_default-start
+returns-in_default-start g c =
+    rw c.bare-in_default-start.ensures (ends_unbegun _ (g.K.Sink.written c.args.out.now) (g.K.Sink.faults c.args.out.now) drive_unbegun)
 
 -- the replay ran to its end, and what stands behind the numbers went out with its result
 pub returns-in-Ok-drive : goal.returns-in-Ok-drive
@@ -131,5 +143,5 @@ returns g c =
     let replayed = log_of_run p input n commands c.in-Ok.image from c.new-weave.result log b told.log in
     ends_full p es (meaning_of p input n) stands c.args.asked.memory c.args.asked.log log
     (written c.args.out.now) (written c.drive.new.out) (written c.send.new.out) (faults c.args.out.now) (faults c.drive.new.out) (faults c.send.new.out) (told_of c.once_sent.result) replayed
-    (stops_of p input n commands c.in-Ok.image from c.new-weave.result log _ drive.LogFull b told.stops) told.later
-    (c.send.result, c.send.ensures.sent, rw c.once_sent.ensures (ap _ c.logged-in-Err-LogFull.ensures))
+    (stops_of p input n commands c.in-Ok.image from c.new-weave.result log (sent_since written faults c.args.out.now c.drive.new.out) drive.LogFull b told.stops) told.later
+    (c.send.result, c.send.ensures.sent, c.once_sent.ensures ∙ ap (once_sent c.send.result) c.logged-in-Err-LogFull.ensures)

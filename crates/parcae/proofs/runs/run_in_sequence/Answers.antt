@@ -43,3 +43,7 @@ returns-in-Err-put_numbers g c =
 
 pub finish-requires-clause-few : goal.finish-requires-clause-few
 finish-requires-clause-few g c = rw c.program.ensures.program (c.declared_stays.ensures.few c.args.program.now c.program.ensures.checked)
+
+-- memory ran out before the run was at its end
+pub returns-in-Err : goal.returns-in-Err
+returns-in-Err g c = rw c.bare-in-Err.ensures (ends_unbegun _ (g.K.Sink.written c.args.out.now) (g.K.Sink.faults c.args.out.now) seq_unbegun)
