@@ -23,13 +23,9 @@ fn words_of(alloc: Global, line: &str) -> Result<Vec<String>, AllocError> {
 /// Prints before and in a region, and writes to an array.
 const MIXED: &str = "var s; array a[2]; print 12; for i in 0..2 { a[i] = i; print 345; }";
 
-/// Comes to a region once more than a log has intervals.
-const FULL: &str = "print 7; seq for k in 0..1048577 { for i in 0..0 { print 8; } } print 9;";
-
 /// What each name holds.
-const HELD: [(&str, &str); 4] = [
+const HELD: [(&str, &str); 3] = [
     ("mixed", MIXED),
-    ("full", FULL),
     ("input", "7"),
     ("script", "use seq 1 until 1"),
 ];
@@ -132,22 +128,6 @@ fn a_half_line_is_left(rt: HostRuntime) -> Result<(), Fail> {
         let (report, sink) = call(rt.alloc(), line, &[], room, &[put])?;
         assert_eq!(rt; report.status, Status::WriteFailed, "{line}");
         assert_eq!(rt; sink.text(), written.as_bytes(), "{line}");
-    }
-    Ok(())
-}
-
-#[test]
-fn a_log_is_full_behind_its_last_interval(rt: HostRuntime) -> Result<(), Fail> {
-    let cases = [
-        (9, Status::LogFull, "7\nlog full\n"),
-        (2, Status::WriteFailed, "7\nlog "),
-    ];
-    for (put, status, written) in cases {
-        let (report, sink) = call(rt.alloc(), "replay full --script script", &[], ROOM, &[put])?;
-        assert_eq!(rt; report.status, status);
-        assert_eq!(rt; report.log.intervals().len(), 1_048_576);
-        assert!(rt; report.outcome.is_none());
-        assert_eq!(rt; sink.text(), written.as_bytes());
     }
     Ok(())
 }

@@ -30,7 +30,7 @@ pub drive-requires-clause-scoped : goal.drive-requires-clause-scoped
 drive-requires-clause-scoped g c =
     subst (λ (i : ImageView). AreScoped i.main (length c.in-Ok-start.store.scalars) (length c.in-Ok-start.store.arrays)) (sym c.in-Ok.ensures)
     (subst (λ (m : Memory). AreScoped c.args.program.now.body (length m.scalars) (length m.arrays)) (sym c.in-Ok-start.ensures)
-    (c.checked_is_scoped.ensures.begun c.args.program.now c.args.input.items c.program.ensures.checked))
+    (c.checked_is_scoped.ensures.begun c.args.program.now c.args.input.items c.program-tree.ensures.checked))
 
 -- memory ran out before the image was there
 pub returns-in_default : goal.returns-in_default
@@ -72,7 +72,7 @@ returns-in-Ok-drive g c =
     (drive_ran log replayed ended c.in-Ok-drive.ensures.few)
     (subst (λ (r : Ran). Appends (written c.args.out.now) (written c.drive.new.out) (number_lines r.store.printed)) c.in-Ok-drive.ensures.ended c.in-Ok-drive.ensures.put)
     c.in-Ok-drive.ensures.later
-    (rw (← c.program.ensures.program) c.finish.ensures.sends))
+    (rw (← c.program-tree.ensures.program) c.finish.ensures.sends))
 
 -- the sink broke the run off
 pub returns-in-Err-WriteFailed : goal.returns-in-Err-WriteFailed
