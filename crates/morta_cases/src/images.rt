@@ -5,7 +5,8 @@ use morta_task::{Image, reshapable_places};
 use std::test::Fail;
 
 /// Loops in every kind of block: the places of their words `for` are 4, 20, 36, 64, 100 and 121.
-const NEST: &[u8] = b"seq for i in 0..1 { for j in 0..1 { for k in 0..1 {} } } if 1 { for i in 0..1 {} } else { while 0 { for i in 0..1 {} } } for i in 0..1 {}";
+const NEST: &[u8] =
+    b"seq for i in 0..1 { for j in 0..1 { for k in 0..1 {} } } if 1 { for i in 0..1 {} } else { while 0 { for i in 0..1 {} } } for i in 0..1 {}";
 
 #[test]
 fn regions_are_chosen_by_their_places(rt: HostRuntime) -> Result<(), Fail> {

@@ -49,6 +49,9 @@ fn a_log_keeps_what_it_is_given(rt: HostRuntime) -> Result<(), Fail> {
     log.enter(entry(&rt, alloc)?, interval(0, 1))?;
     log.add(interval(1, 2))?;
     assert_eq!(rt; log.entries().len(), 1);
-    assert_eq!(rt; log.intervals(), [interval(0, 1), interval(1, 2)].as_slice());
+    assert_eq!(rt;
+        log.intervals(),
+        [interval(0, 1), interval(1, 2)].as_slice()
+    );
     Ok(())
 }

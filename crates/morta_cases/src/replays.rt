@@ -56,7 +56,12 @@ fn are_commands(commands: &[Command]) -> bool
 }
 
 /// The replay of these commands over a program.
-fn replayed(rt: &impl Abort, alloc: Global, text: &[u8], commands: &[Command]) -> Result<Run, Fail> {
+fn replayed(
+    rt: &impl Abort,
+    alloc: Global,
+    text: &[u8],
+    commands: &[Command],
+) -> Result<Run, Fail> {
     assert!(rt; are_commands(commands));
     let checked = checked_of(rt, alloc, text)?;
     let script = Script {
@@ -112,10 +117,18 @@ fn intervals_of_replays(rt: HostRuntime) -> Result<(), Fail> {
     let table: [(&[u8], &[Command], &[Ran]); 9] = [
         (sum, &[], &[ran(10, 21, limit)]),
         (sum, &[until(4)], &[ran(4, 9, limit), ran(10, 13, limit)]),
-        (sum, &[until(4), until(3)], &[ran(0, 1, paused), ran(3, 7, limit), ran(10, 15, limit)]),
+        (
+            sum,
+            &[until(4), until(3)],
+            &[ran(0, 1, paused), ran(3, 7, limit), ran(10, 15, limit)],
+        ),
         (sum, &[step(0, 2)], &[ran(10, 21, limit)]),
         (sum, &[step(1, 5)], &[ran(10, 21, limit)]),
-        (sum, &[step(0, 3), Command::Pause], &[ran(2, 5, paused), ran(10, 17, limit)]),
+        (
+            sum,
+            &[step(0, 3), Command::Pause],
+            &[ran(2, 5, paused), ran(10, 17, limit)],
+        ),
         (count, &[], &[ran(8, 16, trap)]),
         (b"for i in 0..3 {}", &[], &[ran(3, 4, limit)]),
         (b"for i in 0..0 { print i; }", &[], &[ran(0, 1, limit)]),

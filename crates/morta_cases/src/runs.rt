@@ -34,7 +34,11 @@ pub struct Run {
 }
 
 /// Drives a program over no input, where a loop may take 100 turns.
-pub fn driven<M: Runner + Asker>(alloc: Global, checked: &Checked, morta: &mut M) -> Result<Run, Fail>
+pub fn driven<M: Runner + Asker>(
+    alloc: Global,
+    checked: &Checked,
+    morta: &mut M,
+) -> Result<Run, Fail>
     requires stands { (M.promise).stands_for morta.old empty_log }
     requires serves { ServesAll M.promise morta.old (image_of_case checked.now) }
 {
@@ -57,8 +61,18 @@ fn runs_of_one_thread(rt: HostRuntime) -> Result<(), Fail> {
         at: 24,
     });
     let table: [(&[u8], &[u8], Outcome, usize); 3] = [
-        (b"for i in 0..5 { print i; } print 9;", b"0\n1\n2\n3\n4\n9\n", Outcome::Done, 3),
-        (b"for i in 0..5 { print 7 / (3 - i); }", b"2\n3\n7\n", trap, 2),
+        (
+            b"for i in 0..5 { print i; } print 9;",
+            b"0\n1\n2\n3\n4\n9\n",
+            Outcome::Done,
+            3,
+        ),
+        (
+            b"for i in 0..5 { print 7 / (3 - i); }",
+            b"2\n3\n7\n",
+            trap,
+            2,
+        ),
         (b"while 1 {}", b"", Outcome::OutOfTurns { at: 0 }, 0),
     ];
     for (text, put, outcome, intervals) in table {

@@ -110,9 +110,11 @@ runs_on w log e i h =
     (grown capacity log.entries f.more log.intervals w.script h.replay) in
     let found : slice_get new (i.entry - 1) ≡ Some e = ap (λ (k : ℕ). slice_get new (k - 1)) h.number ∙ f.found in
     let before = left_after capacity new log.intervals w.script in
-    let last : IsDriven capacity new before i =
-    (e, found,
-    subst (λ (cs : List Command). IsReplayed capacity i.ran e i.from (limit_of e i.from i.asked.until) (behind_use cs) i.done) (sym g.left) h.replayed) in
+    let last : IsDriven capacity new before i = (
+      e,
+      found,
+      subst (λ (cs : List Command). IsReplayed capacity i.ran e i.from (limit_of e i.from i.asked.until) (behind_use cs) i.done) (sym g.left) h.replayed,
+    ) in
     let left : left_at capacity w.script (with_interval log e i) ≡ left_behind capacity (Some e) i (left_at capacity w.script log) =
     left_snoc capacity new log.intervals i w.script
     ∙ ap (λ (o : Option EntryView). left_behind capacity o i before) found
