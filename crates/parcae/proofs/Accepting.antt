@@ -1,5 +1,5 @@
 -- A text is one accepted program at most, and an accepted one is not refused.
-use Rattle.std.proofs.Common.{◌≡◌, ℕ, List, [], ◌∷◌, ◌++◌, None, Some, append_assoc, ap, sym, refl, ◌∙◌, subst, inl, inr, arith}
+use Rattle.std.proofs.Common.{◌≡◌, ℕ, List, [], ◌∷◌, ◌++◌, None, Some, append_assoc, ap, sym, ◌∙◌, subst, inl, inr, arith}
 use Rattle.std.specs.Prelude.{Contains}
 use Rattle.std.specs.declared.option.Option.{Option}
 use Rattle.nona_lex.specs.declared.tokens.Cut.{Cut}
@@ -11,11 +11,10 @@ use Rattle.nona_tree.specs.declared.faults.ProgramFault.{ProgramFault}
 use Rattle.nona_tree.specs.declared.trees.Program.{Program}
 use Rattle.nona_tree.specs.Faults.{faults_of}
 use Rattle.nona_tree.specs.Ids.{ids_of}
-use Rattle.nona_parse.specs.Reading.{IsReading, IsCutAt, IsSyntaxAt, IsSyntaxBefore}
-use Rattle.parcae.specs.declared.refusal.Kind.{Kind}
+use Rattle.nona_parse.specs.Reading.{IsReading, IsCutAt, IsSyntaxBefore}
 use Rattle.parcae.specs.declared.refusal.Kind.TheVariants as kind
 use Rattle.parcae.specs.declared.refusal.Refusal.{Refusal}
-use Rattle.parcae.specs.Accepted.{IsAccepted, HasFault, IsRefused}
+use Rattle.parcae.specs.Accepted.{IsAccepted, HasFault}
 use Rattle.parcae.specs.Files.{RefusesProgram, program_text}
 
 -- no text is read as two trees, so none has two trees with ids

@@ -1,35 +1,33 @@
 -- What each exit status tells, from how a call that answers ends.
-use Rattle.std.proofs.Common.{◌≡◌, ◌≢◌, ◌⊎◌, ℕ, ◌<◌, ◌≤◌, Bool, ℤ, List, [], ◌∷◌, ◌++◌, length, length-append, ap, sym, refl, ◌∙◌, subst, None, Some, Ok, Err, inl, inr, arith}
+use Rattle.std.proofs.Common.{◌≡◌, ◌≢◌, ◌⊎◌, ℕ, ◌<◌, ◌≤◌, Bool, ℤ, List, [], ◌++◌, length, ap, sym, refl, ◌∙◌, subst, None, Some, inl, inr, arith}
 use Rattle.std.specs.Prelude.{IsSome}
 use Rattle.std.specs.declared.option.Option.{Option}
 use Rattle.std.specs.Io.KnownBytes.{Appends}
 use Rattle.fate_io.specs.Sending.{Sent}
 use Rattle.nona_tree.specs.declared.trees.Program.{Program}
 use Rattle.nona_tree.specs.Run.{Ran, meaning_of}
-use Rattle.nona_store.specs.Input.{numbers_of}
 use Rattle.morta_task.specs.Entries.{EntryView}
-use Rattle.morta_task.specs.LogView.{LogView, empty_log}
+use Rattle.morta_task.specs.LogView.{LogView}
 use Rattle.weave.specs.declared.script.Command.{Command as Order}
 use Rattle.weave.specs.Replay.{IsScriptReplay}
 use Rattle.parcae.specs.declared.replays.TheConstants.{CAPACITY}
-use Rattle.morta_text.specs.Texts.{number_lines, log_text}
-use Rattle.parcae.specs.declared.refusal.Refusal.{Refusal}
+use Rattle.morta_text.specs.Texts.{log_text}
 use Rattle.parcae.specs.declared.refusal.Refusal.TheVariants as refusal
 use Rattle.parcae.specs.declared.refusal.Source.{Source}
 use Rattle.parcae.specs.declared.refusal.Source.TheVariants as source
 use Rattle.parcae.specs.declared.status.Status.TheVariants as status
 use Rattle.parcae.specs.Words.{Task, Command, seq, replay}
 use Rattle.fate_io.specs.Reading.{Held, Looked}
-use Rattle.fate_io.specs.Outside.{Outside, outside_of}
+use Rattle.fate_io.specs.Outside.{outside_of}
 use Rattle.parcae.specs.Codes.{code_of}
-use Rattle.parcae.specs.Texts.{refusal_line, refusal_status, full_line}
+use Rattle.parcae.specs.Texts.{refusal_line}
 use Rattle.parcae.specs.Told.{Told, bare, logged, finished, IsBare}
-use Rattle.parcae.specs.Ends.{Way, Whole, Ends, whole, write_failed, no_memory, unbegun}
-use Rattle.parcae.specs.Files.{limit_of, IsContent, IsLong, IsBad, failed, long, text, Refuses, GivesProgram, GivesInput, GivesScript}
-use Rattle.parcae.specs.Due.{where_asked, behind_numbers, replay_image, entries_in, DueOfReplay, DueOfSeq, DueOfDrive, DueOfCommand}
-use Rattle.parcae.specs.Answers.{Answers, Holds, HoldsProgram, HoldsInput, HoldsScript}
-use Rattle.parcae.specs.Statuses.{OfEachCall, TellsFiles, named, Says, IsBrokenOff, TellsUsage, HasFault, TellsFault, HasFailedRead, TellsFailedRead, TellsFailedWrite, HasLongFile, TellsLongFile, HasFullLog, TellsFullLog, IsWholeReplay, run_text, HasRunInSequence, HasReplayed, TellsMeaning}
-use Rattle.parcae.proofs.Telling.{seq_whole, DriveWhole, is_ran, is_full, drive_whole, ended_code, Runs, WholeBy, by_words, by_file, by_run, whole_by, runs_code, Answered, answered, says_of, refused_code, fault_code, text_code, bad_code, one_source, held_content}
+use Rattle.parcae.specs.Ends.{Whole, whole, write_failed, no_memory, unbegun}
+use Rattle.parcae.specs.Files.{limit_of, IsLong, failed, long, text, GivesProgram, GivesInput, GivesScript}
+use Rattle.parcae.specs.Due.{where_asked, replay_image, entries_in}
+use Rattle.parcae.specs.Answers.{Answers, HoldsProgram, HoldsInput, HoldsScript}
+use Rattle.parcae.specs.Statuses.{OfEachCall, TellsFiles, IsBrokenOff, TellsUsage, HasFault, TellsFault, HasFailedRead, TellsFailedRead, TellsFailedWrite, HasLongFile, TellsLongFile, HasFullLog, TellsFullLog, IsWholeReplay, run_text, HasRunInSequence, HasReplayed, TellsMeaning}
+use Rattle.parcae.proofs.Telling.{seq_whole, DriveWhole, is_ran, is_full, drive_whole, ended_code, WholeBy, by_words, by_file, by_run, whole_by, runs_code, answered, says_of, refused_code, fault_code, text_code, bad_code, one_source, held_content}
 
 -- a run has none of the statuses between
 run_apart : (code n : ℕ) → (code ≤ 2) ⊎ (code ≡ 18) → 2 < n → n < 18 → code ≢ n

@@ -23,7 +23,7 @@ use Rattle.fate_io.specs.Outside.{Outside, outside_of}
 use Rattle.parcae.specs.Ends.{Way, Whole, Unbegun, Ends, whole, write_failed, no_memory, unbegun}
 use Rattle.parcae.specs.Files.{limit_of, IsContent, IsLong, Refuses, IsBad, failed, long, text, RefusesInput, input_token, input_count, RefusesScript, script_line, GivesProgram, GivesInput, NoInput, GivesScript, DueOf, stops, starves, follows}
 use Rattle.parcae.specs.Due.{DueOfSeq, DueOfReplay, DueOfCommand}
-use Rattle.parcae.specs.Answers.{Answers, Holds, HoldsProgram, HoldsInput, HoldsScript, IsCalm, EndsWhole, IsComplete}
+use Rattle.parcae.specs.Answers.{Answers, HoldsProgram, HoldsInput, HoldsScript, EndsWhole, IsComplete}
 use Rattle.parcae.proofs.Accepting.{one_accepted, not_refused}
 
 -- where nothing failed, a call ends whole

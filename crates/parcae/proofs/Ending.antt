@@ -1,5 +1,5 @@
 -- How the end of a call follows from what it sent.
-use Rattle.std.proofs.Common.{◌≡◌, ◌≤◌, ℕ, List, [], ◌++◌, refl, Ok, Err, arith}
+use Rattle.std.proofs.Common.{◌≤◌, ℕ, List, [], refl, Ok, Err, arith}
 use Rattle.std.proofs.KnownBytes.{Appends-nil, Appends-trans}
 use Rattle.std.specs.declared.option.Option.{Option}
 use Rattle.std.specs.Io.KnownBytes.{Appends}

@@ -1,5 +1,5 @@
 -- What is told of a call that was broken off, by what was written.
-use Rattle.std.proofs.Common.{◌≡◌, ◌≢◌, ◌⊎◌, ℕ, ◌<◌, ◌≤◌, ◌+◌, Bool, ℤ, List, [], ◌∷◌, ◌++◌, length, length-append, ap, sym, refl, ◌∙◌, subst, None, Some, inl, inr, arith}
+use Rattle.std.proofs.Common.{◌≡◌, ◌≢◌, ◌⊎◌, ℕ, ◌≤◌, Bool, ℤ, List, [], ◌++◌, length, length-append, ap, sym, refl, ◌∙◌, None, Some, inl, inr, arith}
 use Rattle.std.proofs.lemmas.List.{append_cancel_left}
 use Rattle.std.proofs.lemmas.List.Concat.{flat_map-append}
 use Rattle.std.specs.declared.option.Option.{Option}
@@ -8,22 +8,21 @@ use Rattle.fate_io.specs.Sending.{Sent}
 use Rattle.fate_io.specs.Reading.{Looked}
 use Rattle.fate_io.specs.Outside.{outside_of}
 use Rattle.nona_tree.specs.declared.trees.Program.{Program}
-use Rattle.nona_tree.specs.Memory.{Memory, Extends}
+use Rattle.nona_tree.specs.Memory.{Extends}
 use Rattle.nona_tree.specs.Run.{Ran, meaning_of}
 use Rattle.morta_task.specs.Entries.{EntryView}
 use Rattle.morta_task.specs.LogView.{LogView, empty_log}
-use Rattle.weave.specs.declared.script.Command.{Command as Order}
 use Rattle.morta_text.specs.Texts.{number_line, number_lines}
 use Rattle.morta_exec.specs.Places.{most}
 use Rattle.parcae.specs.declared.refusal.Refusal.TheVariants as refusal
 use Rattle.parcae.specs.declared.status.Status.TheVariants as status
-use Rattle.parcae.specs.Words.{Command, seq, replay}
+use Rattle.parcae.specs.Words.{seq, replay}
 use Rattle.parcae.specs.Texts.{refusal_line}
-use Rattle.parcae.specs.Told.{Told, bare, finished, logged, IsBare, Keeps}
-use Rattle.parcae.specs.Ends.{Way, Whole, Early, Unbegun, Breaks, within, behind, Ends, whole, write_failed, no_memory, unbegun}
+use Rattle.parcae.specs.Told.{Told, bare, finished, IsBare, Keeps}
+use Rattle.parcae.specs.Ends.{Way, Whole, Early, Unbegun, Breaks, within, behind, whole, write_failed, no_memory, unbegun}
 use Rattle.parcae.specs.Due.{DueOfSeq, seq_ran, seq_broken, seq_unbegun, DueOfDrive, drive_ran, drive_full, drive_broken, drive_unbegun, DueOfCommand}
-use Rattle.parcae.specs.Answers.{Answers, HoldsProgram, HoldsInput, HoldsScript}
-use Rattle.parcae.specs.Statuses.{OfEachCall, IsCutBy, IsCut, TellsFront}
+use Rattle.parcae.specs.Answers.{Answers}
+use Rattle.parcae.specs.Statuses.{OfEachCall, IsCutBy, TellsFront}
 use Rattle.parcae.proofs.Completing.{One, none_added, seq_due, replay_due, whole_apart}
 use Rattle.parcae.proofs.Telling.{seq_whole, DriveWhole, is_ran, is_full, drive_whole, whole_by}
 use Rattle.parcae.proofs.Clauses.{whole_code}

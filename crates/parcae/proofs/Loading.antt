@@ -1,5 +1,5 @@
 -- What a file gives follows from its content.
-use Rattle.std.proofs.Common.{◌≡◌, ◌≢◌, ℕ, List, [], ◌++◌, append-nil, sym, refl, ◌∙◌, Ok, Err}
+use Rattle.std.proofs.Common.{◌≡◌, ◌≢◌, ℕ, List, [], append-nil, sym, refl, ◌∙◌, Ok, Err}
 use Rattle.std.specs.Prelude.{IfErr}
 use Rattle.std.specs.declared.result.Result.{Result}
 use Rattle.nona_tree.specs.declared.faults.ProgramFault.{ProgramFault}

@@ -1,5 +1,5 @@
 -- How the end of a replay follows from that of its drive.
-use Rattle.std.proofs.Common.{◌≡◌, ◌⊎◌, ◌≤◌, ℕ, ℤ, List, [], ◌∷◌, length, ap, sym, refl, ◌∙◌, subst, None, Some, inl, inr, zero, suc, Bool, IsTrue}
+use Rattle.std.proofs.Common.{◌≡◌, ◌≤◌, ℕ, ℤ, List, [], ◌∷◌, length, ap, sym, refl, ◌∙◌, subst, Some, inl, inr, zero, suc, Bool, IsTrue}
 use Rattle.std.specs.Prelude.{map, slice_get}
 use Rattle.std.specs.declared.option.Option.{Option}
 use Rattle.fate_io.specs.Sending.{Sent}

@@ -1,5 +1,5 @@
 -- What a status tells follows from how a call ends.
-use Rattle.std.proofs.Common.{◌≡◌, ◌≢◌, ◌⊎◌, ℕ, ◌<◌, ◌≤◌, Bool, ℤ, List, [], ◌∷◌, ◌++◌, length, length-append, ap, sym, refl, ◌∙◌, subst, None, Some, Ok, Err, inl, inr, arith}
+use Rattle.std.proofs.Common.{◌≡◌, ◌≢◌, ◌⊎◌, ℕ, ◌≤◌, Bool, ℤ, List, [], ◌++◌, length, ap, sym, refl, subst, None, Some, inl, inr, arith}
 use Rattle.std.specs.Prelude.{IsSome}
 use Rattle.std.specs.declared.option.Option.{Option}
 use Rattle.std.specs.Io.KnownBytes.{Appends}
@@ -7,15 +7,12 @@ use Rattle.fate_io.specs.Sending.{Sent}
 use Rattle.nona_tree.specs.declared.outcomes.Outcome.{Outcome}
 use Rattle.nona_tree.specs.declared.outcomes.Outcome.TheVariants as outcome
 use Rattle.nona_tree.specs.declared.trees.Program.{Program}
-use Rattle.nona_tree.specs.Memory.{Memory, Extends}
+use Rattle.nona_tree.specs.Memory.{Memory}
 use Rattle.nona_tree.specs.Run.{Ran, meaning_of}
-use Rattle.nona_store.specs.Input.{numbers_of}
 use Rattle.morta_task.specs.Entries.{EntryView}
 use Rattle.morta_task.specs.LogView.{LogView, empty_log}
 use Rattle.morta_task.specs.Legal.{EndsAll, last_in}
 use Rattle.weave.specs.declared.script.Command.{Command as Order}
-use Rattle.weave.specs.Replay.{IsScriptReplay}
-use Rattle.parcae.specs.declared.replays.TheConstants.{CAPACITY}
 use Rattle.morta_text.specs.Texts.{number_lines, log_text}
 use Rattle.morta_exec.specs.Places.{most}
 use Rattle.parcae.specs.declared.refusal.Refusal.{Refusal}
@@ -23,17 +20,17 @@ use Rattle.parcae.specs.declared.refusal.Refusal.TheVariants as refusal
 use Rattle.parcae.specs.declared.refusal.Source.{Source}
 use Rattle.parcae.specs.declared.refusal.Source.TheVariants as source
 use Rattle.parcae.specs.declared.status.Status.TheVariants as status
-use Rattle.parcae.specs.Words.{Task, Command, seq, replay}
+use Rattle.parcae.specs.Words.{Command, seq, replay}
 use Rattle.fate_io.specs.Reading.{Held, Looked}
 use Rattle.fate_io.specs.Outside.{Outside, outside_of}
 use Rattle.parcae.specs.Codes.{code_of}
 use Rattle.parcae.specs.Texts.{refusal_line, refusal_status, full_line}
-use Rattle.parcae.specs.Told.{Told, bare, logged, finished, status_of, IsBare}
-use Rattle.parcae.specs.Ends.{Way, Whole, Early, Unbegun, Breaks, within, behind, Ends, whole, write_failed, no_memory, unbegun}
-use Rattle.parcae.specs.Files.{limit_of, IsContent, IsBad, failed, long, text, Refuses, program_text, input_token, input_count, script_line, GivesProgram, GivesInput, NoInput, GivesScript, DueOf, stops, starves, follows}
-use Rattle.parcae.specs.Due.{where_asked, behind_numbers, replay_image, entries_in, DueOfReplay, DueOfSeq, seq_ran, seq_broken, seq_unbegun, DueOfDrive, drive_ran, drive_full, drive_broken, drive_unbegun, DueOfCommand}
-use Rattle.parcae.specs.Answers.{Answers, Holds, HoldsProgram, HoldsInput, HoldsScript, EndsWhole}
-use Rattle.parcae.specs.Statuses.{OfEachCall, TellsFiles, named, Says, IsBrokenOff, TellsUsage, TellsFault, TellsFailedRead, TellsFailedWrite, TellsLongFile, TellsFullLog}
+use Rattle.parcae.specs.Told.{Told, bare, logged, finished, status_of}
+use Rattle.parcae.specs.Ends.{Way, Whole, Unbegun, Ends, whole, write_failed, no_memory, unbegun}
+use Rattle.parcae.specs.Files.{IsContent, IsBad, failed, long, text, Refuses, program_text, input_token, input_count, script_line, GivesProgram, GivesInput, NoInput, GivesScript, stops, starves, follows}
+use Rattle.parcae.specs.Due.{where_asked, behind_numbers, DueOfReplay, DueOfSeq, seq_ran, seq_broken, seq_unbegun, DueOfDrive, drive_ran, drive_full, drive_broken, drive_unbegun, DueOfCommand}
+use Rattle.parcae.specs.Answers.{Answers, EndsWhole}
+use Rattle.parcae.specs.Statuses.{named, Says}
 
 -- what is due of a run in one thread is whole only as its meaning
 pub seq_whole : (tree : Program) (ran : Ran) (memory : Bool) (way : Way) (report : Told) (printed later : List ℕ)

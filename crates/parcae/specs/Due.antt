@@ -1,5 +1,5 @@
 -- What is due of a command.
-use Rattle.std.specs.Prelude.{◌≡◌, ◌≤◌, ℕ, Bool, true, false, if◌then◌else◌, ℤ, List, [], ◌∷◌, ◌++◌, length, None, Some}
+use Rattle.std.specs.Prelude.{◌≡◌, ◌≤◌, ℕ, Bool, if◌then◌else◌, ℤ, List, [], ◌++◌, length, None, Some}
 use Rattle.std.specs.declared.option.Option.{Option}
 use Rattle.nona_tree.specs.declared.trees.Program.{Program}
 use Rattle.nona_tree.specs.Memory.{Memory, Extends}
@@ -17,7 +17,7 @@ use Rattle.morta_exec.specs.Places.{most, IsBehind, StartsNext}
 use Rattle.parcae.specs.declared.refusal.Refusal.TheVariants.{Usage}
 use Rattle.parcae.specs.declared.refusal.Source.TheVariants as source
 use Rattle.parcae.specs.declared.status.Status.TheVariants as status
-use Rattle.parcae.specs.Words.{Task, Command, seq, replay}
+use Rattle.parcae.specs.Words.{Command, seq, replay}
 use Rattle.fate_io.specs.Outside.{Outside}
 use Rattle.parcae.specs.Texts.{full_line}
 use Rattle.parcae.specs.Told.{logged, finished}

@@ -1,4 +1,4 @@
-use Rattle.std.proofs.Common.{◌≡◌, ap, sym, ◌∙◌, subst, refl, List, length}
+use Rattle.std.proofs.Common.{◌≡◌, ap, sym, ◌∙◌, subst, List, length}
 use Rattle.std.specs.Io.KnownBytes.{Appends}
 use Rattle.fate_io.specs.Sending.{Sent, sent_since}
 use Rattle.nona_tree.specs.Run.{Ran, meaning_of}
@@ -12,12 +12,11 @@ use Rattle.weave.specs.Replay.{IsScriptReplay}
 use Rattle.weave.specs.WeaveView.{WeaveView}
 use Rattle.weave.specs.WeavePromise.{weave_promise}
 use Rattle.morta_exec.specs.declared.fault.DriveFault.TheVariants as drive
-use Rattle.morta_exec.specs.declared.start.Beginning.{Beginning}
 use Rattle.morta_exec.specs.Log.{ServesAll}
 use Rattle.parcae.specs.declared.replays.TheConstants.{CAPACITY}
 use Rattle.parcae.specs.Told.{told_of, finished, once_sent}
 use Rattle.parcae.specs.Ends.{Ends}
-use Rattle.parcae.specs.Due.{replay_image, entries_in, where_asked, behind_numbers, DueOfDrive, DueOfReplay, drive_ran, drive_unbegun}
+use Rattle.parcae.specs.Due.{replay_image, entries_in, where_asked, behind_numbers, DueOfDrive, drive_ran, drive_unbegun}
 use Rattle.parcae.proofs.Ending.{ends_unbegun, ends_behind}
 use Rattle.parcae.proofs.Replaying.{serves_all, beginning, Begins, entries_are, runs_are, stops_of, log_of_run, ends_write, ends_memory, ends_full}
 use Rattle.parcae.proofs.replays.replay_script.Goals as goal

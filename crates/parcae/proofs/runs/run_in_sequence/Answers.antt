@@ -1,4 +1,4 @@
-use Rattle.std.proofs.Common.{length, subst, ◌≤◌, ◌+◌, List, ℕ, []}
+use Rattle.std.proofs.Common.{length, subst, ◌≤◌, ◌+◌, []}
 use Rattle.fate_io.specs.Sending.{Sent, sent_since}
 use Rattle.nona_tree.specs.Run.{Ran}
 use Rattle.morta_task.specs.LogView.{empty_log}

@@ -1,4 +1,4 @@
-use Rattle.std.proofs.Common.{Ok, Err, ◌++◌}
+use Rattle.std.proofs.Common.{Err, ◌++◌}
 use Rattle.fate_io.proofs.Texts.{sends_both, sends_first}
 use Rattle.morta_text.specs.Texts.{outcome_text, memory_text, log_text}
 use Rattle.parcae.specs.Due.{where_asked}

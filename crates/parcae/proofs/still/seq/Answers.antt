@@ -1,12 +1,10 @@
 use Rattle.std.proofs.Common.{refl, subst, ◌∙◌, Some, List, ℕ}
-use Rattle.fate_io.specs.Sending.{sent_since}
 use Rattle.parcae.specs.declared.refusal.Source.TheVariants as source
 use Rattle.parcae.specs.Meant.{task_of}
 use Rattle.parcae.specs.Words.{seq}
 use Rattle.fate_io.specs.Reading.{Held, looked_since}
-use Rattle.fate_io.specs.Outside.{Outside}
 use Rattle.parcae.specs.Files.{seen, IsBad, GivesInput, NoInput, Stopped, stops, starves, follows}
-use Rattle.parcae.specs.Due.{DueOfCommand, seq_unbegun}
+use Rattle.parcae.specs.Due.{DueOfCommand}
 use Rattle.parcae.proofs.Answering.{stopped_answer, whole_answer}
 use Rattle.parcae.proofs.still.seq.Goals as goal
 
