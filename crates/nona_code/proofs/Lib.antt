@@ -12,3 +12,4 @@ pub mod Kept
 pub mod Highest
 pub mod Numbering
 pub mod Resting
+pub mod Allowed

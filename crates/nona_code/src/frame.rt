@@ -1,6 +1,9 @@
 //! Frames, which run code that stands for a statement.
 
-ghost use Rattle.std.specs.Prelude.{◌≡◌, ◌≤◌, IfOk};
+ghost use Rattle.std.specs.Prelude.{◌≡◌, ◌≤◌, List, IfOk};
+ghost use Rattle.std.specs.List.{AllByRecursion};
+ghost use Rattle.nona_tree.specs.Deeds.{Deed};
+ghost use Rattle.nona_store.specs.Banks.{Allows, all_allowed};
 ghost use Rattle.nona_code.specs.Rested.{AreKept, IsRested};
 ghost use Rattle.nona_code.specs.Units.{IsUnit, RunsAs};
 
@@ -11,6 +14,11 @@ use nona_store::Bank;
 use nona_tree::{Outcome, TrapKind};
 use std::alloc::{AllocError, Global};
 use std::marker::Model;
+
+/// Says that a whole store allows every deed. It does nothing when called.
+pub fn stores_allow_all()
+    ensures { (ds : List Deed) → AllByRecursion (Allows all_allowed) ds }
+{}
 
 /// How a unit ended: its statement is done, trapped at a place or ran out of turns at a loop's place; or memory ran out.
 #[derive(Clone, Copy, Debug, PartialEq, Eq)]

@@ -19,7 +19,10 @@ mod step;
 mod uses;
 mod verifying;
 
-pub use frame::{Frame, UnitEnd};
+pub use frame::{Frame, UnitEnd, stores_allow_all};
 pub use instr::Instr;
 pub use sound::Sound;
 pub use verifying::verify;
+
+#[cfg(test)]
+mod tests;

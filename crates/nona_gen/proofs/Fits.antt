@@ -1,13 +1,14 @@
 -- What has code fits the numbers of scalars, hidden scalars and counters.
-use Rattle.std.proofs.Common.{◌≡◌, ℕ, ◌+◌, ◌<◌, ◌≤◌, Bool, true, false, if◌then◌else◌, List, [], ◌∷◌, refl, arith}
-use Rattle.std.specs.Prelude.{max}
+use Rattle.std.proofs.Common.{◌≡◌, ℕ, zero, suc, ◌+◌, ◌<◌, ◌≤◌, Bool, true, false, if◌then◌else◌, List, [], ◌∷◌, refl, arith}
+use Rattle.std.specs.Prelude.{max, All}
 use Rattle.std.proofs.Math.Nat.{le-max_left, le-max_right}
 use Rattle.nona_tree.specs.declared.trees.Access.{Access}
 use Rattle.nona_tree.specs.declared.trees.Expr.{Expr, Number, Scalar, Cell', Len, Neg', Not', Binary', more_of-Expr, end_of-Expr}
 use Rattle.nona_tree.specs.declared.trees.Expr.TheBlock.{more_of-Access, end_of-Access}
 use Rattle.nona_tree.specs.declared.trees.Stmt.{Stmt, Let, Set, Fold, Put, FoldPut, If', While', For', Print, Row_of-Stmt, end_of-Stmt, more_of-Stmt}
-use Rattle.nona_tree.specs.Scope.{IsNamed, IsScoped, IsRowScoped, IsSteady, IsRowSteady, is_let, depth_after}
-use Rattle.nona_tree.specs.Smallness.{expr_size, stmt_size, row_size, stmt_nesting, row_nesting}
+use Rattle.nona_tree.specs.Numbers.{AreI64Stmts}
+use Rattle.nona_tree.specs.Scope.{IsNamed, IsScoped, IsRowScoped, AreScoped, IsSteady, IsRowSteady, AreSteady, is_let, depth_after}
+use Rattle.nona_tree.specs.Smallness.{expr_size, stmt_size, row_size, all_size, stmt_nesting, row_nesting, all_nesting}
 use Rattle.nona_code.specs.Machine.{first_hidden}
 use Rattle.nona_gen.specs.Fit.{IsFitExpr, IsFit, IsRowFit}
 use Rattle.nona_gen.specs.Units.{HasCode}
@@ -76,3 +77,19 @@ mutual
 
 pub code_fits : (s : Stmt) → HasCode s → IsFit s 0
 code_fits s h = stmt_fit s h.depth h.arrays 0 [] h.scoped h.few (omega (arith, h.nested)) h.steady
+
+-- each statement of a list has code
+pub have_code : (ss : List Stmt) (d a : ℕ) → AreScoped ss d a → d + all_size ss ≤ 2147483648 → all_nesting ss ≤ 256 → AreSteady ss [] → AreI64Stmts ss → All HasCode ss
+have_code [] d a scoped few nested steady numbers k other below = absurd (omega (arith, below))
+have_code (s ∷ rest) d a scoped few nested steady numbers zero other below =
+    record {
+      depth = d;
+      arrays = a;
+      scoped = scoped.0;
+      few = omega (arith, few);
+      nested = omega (arith, nested, le-max_left (stmt_nesting s) (all_nesting rest));
+      steady = steady.0;
+      numbers = numbers.0;
+    }
+have_code (s ∷ rest) d a scoped few nested steady numbers (suc k) other below =
+    have_code rest (depth_after s d) a scoped.1 (omega (arith, few, some_size s, one_more (is_let s) d)) (omega (arith, nested, le-max_right (stmt_nesting s) (all_nesting rest))) steady.1 numbers.1 k other (omega (arith, below))

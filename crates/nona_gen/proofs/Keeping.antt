@@ -160,7 +160,7 @@ module _ (code : List Instr) where
   expr_fine (Scalar x) d k fit = (fine code _ _ (omega arith) (omega arith) tt tt (omega (arith, fit)), tt)
   expr_fine (Cell' p (more_of-Access array wrap index end_of-Access)) d k fit =
       fine_on code (mark d k) (mark (d + 1) k) (expr_code index) _ (expr_past index d k) (expr_fine index d k fit)
-      (fine code _ _ (omega arith) (omega arith) tt tt tt, fine code _ _ (omega arith) (omega arith) tt tt tt, tt)
+      (fine code _ _ (omega arith) (omega arith) tt tt tt, (fine code _ _ (omega arith) (omega arith) tt tt tt, tt))
   expr_fine (Len a) d k fit = (fine code _ _ (omega arith) (omega arith) tt tt tt, tt)
   expr_fine (Neg' p (more_of-Expr e end_of-Expr)) d k fit =
       fine_on code (mark d k) (mark (d + 1) k) (expr_code e) _ (expr_past e d k) (expr_fine e d k fit) (fine code _ _ (omega arith) (omega arith) tt tt tt, tt)
@@ -182,7 +182,7 @@ module _ (code : List Instr) where
   one_fine o at d k = (fine code _ _ (omega arith) (omega arith) tt tt tt, tt)
 
   two_fine : (o : Op) (at d k : ℕ) → AreFine code (mark (d + 2) k) (instr.Binary o at ∷ instr.Not ∷ [])
-  two_fine o at d k = (fine code _ _ (omega arith) (omega arith) tt tt tt, fine code _ _ (omega arith) (omega arith) tt tt tt, tt)
+  two_fine o at d k = (fine code _ _ (omega arith) (omega arith) tt tt tt, (fine code _ _ (omega arith) (omega arith) tt tt tt, tt))
 
   flip_last_fine : (o : Op) (at d k : ℕ) → AreFine code (mark (d + 2) k) (flip_last o at)
   flip_last_fine op.Eq at d k = one_fine op.Ne at d k
@@ -291,13 +291,13 @@ module _ (code : List Instr) where
         let j : after (instr.Jump T) (after (instr.Enter depth) (mark 0 k)) ≡ mark 0 k = mark_is _ _ _ _ (omega arith) (omega arith) in
         let z : after (instr.Zero (p + 2)) (mark 1 k) ≡ mark 0 k = mark_is _ _ _ _ (omega arith) (omega arith) in
         (fine code _ _ (omega arith) (omega arith) tt tt (omega (arith, fit.0)),
-        fine code _ _ (omega arith) (omega arith) tt (more_t, m_t ∙ sym j) tt,
-        fine code _ _ (omega arith) (omega arith) tt tt (omega (arith, fit.0)),
+        (fine code _ _ (omega arith) (omega arith) tt (more_t, m_t ∙ sym j) tt,
+        (fine code _ _ (omega arith) (omega arith) tt tt (omega (arith, fit.0)),
         fine_as code (past (mark 0 k) head) (mark 0 k) (W ++ rest) three
         (fine_on code (mark 0 k) (mark 0 k) W rest one
         (block_fine (row_code body (depth + 1)) (lets_row body) b k (row_past body (depth + 1) b k) (row_fine body (depth + 1) b k fit.2 (front code b (row_code body (depth + 1) b) (leave_code (lets_row body)) (front code b W rest has_w)) (row_more b (row_code body (depth + 1) b) (leave_code (lets_row body)) T refl more_t) m_b))
         (fine_on code (mark 0 k) (mark 1 k) ct Z (flip_past test 0 k) (flip_fine test 0 k fit.1)
-        (fine code _ _ (omega arith) (omega arith) tt (more_l, m_l ∙ sym z) tt, tt))))
+        (fine code _ _ (omega arith) (omega arith) tt (more_l, m_l ∙ sym z) tt, tt))))))
     stmt_fine (For' x low high q body seq at) depth p k fit has more m =
         let row = row_code body (depth + 1) in
         let tail = instr.Save (high_of depth) ∷ instr.Declare ∷ instr.Enter depth ∷ [] in
@@ -335,22 +335,22 @@ module _ (code : List Instr) where
         let y : after (instr.Zero (t + 4)) (past (mark 0 I) (instr.Push (pos 1) ∷ instr.FoldSave x.id fold.Add ∷ instr.Load x.id ∷ instr.Load (high_of depth) ∷ instr.Binary op.Ge at ∷ [])) ≡ mark 0 I = mark_is _ _ _ _ (omega arith) (omega arith) in
         fine_on code (mark 0 k) (mark 0 I) bounds (head ++ rest) (bounds_past low high depth k)
         (then_fine low _ 0 k fit.1 (then_fine high tail 1 k fit.2
-        (fine code _ _ (omega arith) (omega arith) tt tt (omega (arith, fit.0)), fine code _ _ (omega arith) (omega arith) tt tt tt, fine code _ _ (omega arith) (omega arith) tt tt (omega (arith, fit.0)), tt)))
+        (fine code _ _ (omega arith) (omega arith) tt tt (omega (arith, fit.0)), (fine code _ _ (omega arith) (omega arith) tt tt tt, (fine code _ _ (omega arith) (omega arith) tt tt (omega (arith, fit.0)), tt)))))
         (fine code _ _ (omega arith) (omega arith) tt tt (omega (arith, fit.4)),
-        fine code _ _ (omega arith) (omega arith) tt tt (omega (arith, fit.0)),
-        fine code _ _ (omega arith) (omega arith) tt tt tt,
-        fine code _ _ (omega arith) (omega arith) tt (more_e, m_e ∙ sym z) tt,
-        fine code _ _ (omega arith) (omega arith) tt tt (omega (arith, fit.0)),
+        (fine code _ _ (omega arith) (omega arith) tt tt (omega (arith, fit.0)),
+        (fine code _ _ (omega arith) (omega arith) tt tt tt,
+        (fine code _ _ (omega arith) (omega arith) tt (more_e, m_e ∙ sym z) tt,
+        (fine code _ _ (omega arith) (omega arith) tt tt (omega (arith, fit.0)),
         fine_as code (past (mark 0 I) head) (mark 0 I) rest at_5
         (fine_on code (mark 0 I) (mark 0 (I + lets_row body)) B (G ++ N) inner (row_fine body (depth + 1) b I fit.3 (front code b B (G ++ N) has_b) more_b m_b)
         (fine_on code (mark 0 (I + lets_row body)) (mark 0 I) G N (leave_past (lets_row body) I) (leave_fine (lets_row body) I)
         (fine code _ _ (omega arith) (omega arith) tt tt tt,
-        fine code _ _ (omega arith) (omega arith) tt tt tt,
-        fine code _ _ (omega arith) (omega arith) tt tt (omega (arith, fit.4)),
-        fine code _ _ (omega arith) (omega arith) tt tt (omega (arith, fit.0)),
-        fine code _ _ (omega arith) (omega arith) tt tt tt,
-        fine code _ _ (omega arith) (omega arith) tt (more_4, m_4 ∙ sym y) tt,
-        fine code _ _ (omega arith) (omega arith) tt tt tt, tt))))
+        (fine code _ _ (omega arith) (omega arith) tt tt tt,
+        (fine code _ _ (omega arith) (omega arith) tt tt (omega (arith, fit.4)),
+        (fine code _ _ (omega arith) (omega arith) tt tt (omega (arith, fit.0)),
+        (fine code _ _ (omega arith) (omega arith) tt tt tt,
+        (fine code _ _ (omega arith) (omega arith) tt (more_4, m_4 ∙ sym y) tt,
+        (fine code _ _ (omega arith) (omega arith) tt tt tt, tt))))))))))))))
     stmt_fine (Print e at) depth p k fit has more m = then_fine e _ 0 k fit (fine code _ _ (omega arith) (omega arith) tt tt tt, tt)
 
     pub row_fine : {j : _} (row : Row_of-Stmt j) (depth p k : ℕ) → IsRowFit row depth → Stands code p (row_code row depth p) → p + length (row_code row depth p) < length code → mark_at code p ≡ mark 0 k → AreFine code (mark 0 k) (row_code row depth p)
@@ -373,7 +373,8 @@ stop_last c pc i is =
     (λ (before : pc < length c). followed (length code) i pc (omega (arith, before, long)))
     (λ (behind : length c ≤ pc).
     let here : pc ≡ length c = omega (arith, behind, within, long) in
-    let last = (back code 0 c (instr.Stop ∷ []) (stands_all code)).0 in
+    let first : 0 + length c ≡ length c = omega arith in
+    let last : slice_get code (length c) ≡ Some instr.Stop = ap (slice_get code) (sym first) ∙ (back code 0 c (instr.Stop ∷ []) (stands_all code)).0 in
     let both : Some instr.Stop ≡ Some i = sym last ∙ ap (slice_get code) (sym here) ∙ is in
     let e : instr.Stop ≡ i = cc in
     subst (λ x. Followed (length code) x pc) e tt)

@@ -9,6 +9,6 @@ pub mod Opened
 pub mod Steady
 pub mod Turning
 pub mod Runs
-pub mod Units
+pub mod Standing
 pub mod Marks
 pub mod Keeping

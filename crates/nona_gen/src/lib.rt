@@ -11,4 +11,4 @@ mod units;
 
 pub use emit::emit_expr;
 pub use statements::emit_stmt;
-pub use units::{code_stands, generate_unit};
+pub use units::{checked_has_code, code_stands, generate_unit};

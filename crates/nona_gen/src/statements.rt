@@ -201,6 +201,7 @@ fn emit_while(
 /// A `for`.
 #[cycle(emit)]
 fn emit_for(l: &Loop, depth: u32, code: &mut Vec<Instr>) -> Result<(), AllocError>
+    ensures { OnOk result (code.new.items ≡ code.old.items ++ for_code l.now depth (length code.old.items)) }
 {
     let deeper = one_more(depth)?;
     let id = l.index.id;
