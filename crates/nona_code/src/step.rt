@@ -264,4 +264,3 @@ fn starved<B: Bank>(code: &[Instr], pc: usize, bank: &mut B, at: u32) -> Step
     bank.cut_scalars(count_open(code, pc));
     Step::Ended(Outcome::OutOfTurns { at })
 }
-

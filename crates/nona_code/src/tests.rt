@@ -31,7 +31,10 @@ fn code_that_keeps_the_rule_and_code_that_breaks_it(rt: HostRuntime) -> Result<(
         (&[Jump(2), Stop], None),
         (&[], None),
         (&[Push(1), Push(2), add, Drop, Stop], Some((2, 0))),
-        (&[Push(1), Declare, Push(2), Declare, Leave(2), Stop], Some((1, 2))),
+        (
+            &[Push(1), Declare, Push(2), Declare, Leave(2), Stop],
+            Some((1, 2)),
+        ),
         (&[Push(1), Declare, Leave(2), Stop], None),
         (&[Push(0), Zero(3), Stop, Stop], Some((1, 0))),
         (&[Push(0), Zero(3), Push(1), Stop], None),

@@ -259,14 +259,16 @@ module _ (code : List Instr) where
         let m_e : mark_at code (b + length S) ≡ mark 0 k = mark_past code b S (mark 0 k) has_j.1 m_b ∙ two in
         let more_b : b < length code = omega (arith, more, size) in
         let more_e : b + length S < length code = omega (arith, more, size) in
-        then_fine test _ 0 k fit.0
-        (fine code _ _ (omega arith) (omega arith) tt (more_b, m_b ∙ sym z) tt,
-        fine_as code (after (instr.Zero b) (mark 1 k)) (mark 0 k) (F ++ rest) z
-        (fine_on code (mark 0 k) (mark 0 k) F rest one
-        (block_fine (row_code then_part depth) (lets_row then_part) a k (row_past then_part depth a k) (row_fine then_part depth a k fit.1 (front code a (row_code then_part depth a) (leave_code (lets_row then_part)) has_f) (row_more a (row_code then_part depth a) (leave_code (lets_row then_part)) (a + length F) refl (omega (arith, more_b))) m_a))
-        (fine code _ _ (omega arith) (omega arith) tt (more_e, m_e ∙ sym j) tt,
-        fine_as code (after J (mark 0 k)) (mark 0 k) S j
-        (block_fine (row_code else_part depth) (lets_row else_part) b k (row_past else_part depth b k) (row_fine else_part depth b k fit.2 (front code b (row_code else_part depth b) (leave_code (lets_row else_part)) has_j.1) (row_more b (row_code else_part depth b) (leave_code (lets_row else_part)) (b + length S) refl more_e) m_b)))))
+        then_fine test _ 0 k fit.0 (
+          fine code _ _ (omega arith) (omega arith) tt (more_b, m_b ∙ sym z) tt,
+          fine_as code (after (instr.Zero b) (mark 1 k)) (mark 0 k) (F ++ rest) z
+              (fine_on code (mark 0 k) (mark 0 k) F rest one
+              (block_fine (row_code then_part depth) (lets_row then_part) a k (row_past then_part depth a k) (row_fine then_part depth a k fit.1 (front code a (row_code then_part depth a) (leave_code (lets_row then_part)) has_f) (row_more a (row_code then_part depth a) (leave_code (lets_row then_part)) (a + length F) refl (omega (arith, more_b))) m_a)) (
+                fine code _ _ (omega arith) (omega arith) tt (more_e, m_e ∙ sym j) tt,
+                fine_as code (after J (mark 0 k)) (mark 0 k) S j
+                    (block_fine (row_code else_part depth) (lets_row else_part) b k (row_past else_part depth b k) (row_fine else_part depth b k fit.2 (front code b (row_code else_part depth b) (leave_code (lets_row else_part)) has_j.1) (row_more b (row_code else_part depth b) (leave_code (lets_row else_part)) (b + length S) refl more_e) m_b)),
+              )),
+        )
     stmt_fine (While' test q body at) depth p k fit has more m =
         let ct = flip_code test in
         let whole = block_code (row_code body (depth + 1)) (lets_row body) in
@@ -289,15 +291,20 @@ module _ (code : List Instr) where
         let more_l : p + 2 < length code = omega (arith, more, size) in
         let e1 : after (instr.Enter depth) (mark 0 k) ≡ mark 0 k = mark_is _ _ _ _ (omega arith) (omega arith) in
         let j : after (instr.Jump T) (after (instr.Enter depth) (mark 0 k)) ≡ mark 0 k = mark_is _ _ _ _ (omega arith) (omega arith) in
-        let z : after (instr.Zero (p + 2)) (mark 1 k) ≡ mark 0 k = mark_is _ _ _ _ (omega arith) (omega arith) in
-        (fine code _ _ (omega arith) (omega arith) tt tt (omega (arith, fit.0)),
-        (fine code _ _ (omega arith) (omega arith) tt (more_t, m_t ∙ sym j) tt,
-        (fine code _ _ (omega arith) (omega arith) tt tt (omega (arith, fit.0)),
-        fine_as code (past (mark 0 k) head) (mark 0 k) (W ++ rest) three
-        (fine_on code (mark 0 k) (mark 0 k) W rest one
-        (block_fine (row_code body (depth + 1)) (lets_row body) b k (row_past body (depth + 1) b k) (row_fine body (depth + 1) b k fit.2 (front code b (row_code body (depth + 1) b) (leave_code (lets_row body)) (front code b W rest has_w)) (row_more b (row_code body (depth + 1) b) (leave_code (lets_row body)) T refl more_t) m_b))
-        (fine_on code (mark 0 k) (mark 1 k) ct Z (flip_past test 0 k) (flip_fine test 0 k fit.1)
-        (fine code _ _ (omega arith) (omega arith) tt (more_l, m_l ∙ sym z) tt, tt))))))
+        let z : after (instr.Zero (p + 2)) (mark 1 k) ≡ mark 0 k = mark_is _ _ _ _ (omega arith) (omega arith) in (
+          fine code _ _ (omega arith) (omega arith) tt tt (omega (arith, fit.0)),
+          (
+            fine code _ _ (omega arith) (omega arith) tt (more_t, m_t ∙ sym j) tt,
+            (
+              fine code _ _ (omega arith) (omega arith) tt tt (omega (arith, fit.0)),
+              fine_as code (past (mark 0 k) head) (mark 0 k) (W ++ rest) three
+                  (fine_on code (mark 0 k) (mark 0 k) W rest one
+                  (block_fine (row_code body (depth + 1)) (lets_row body) b k (row_past body (depth + 1) b k) (row_fine body (depth + 1) b k fit.2 (front code b (row_code body (depth + 1) b) (leave_code (lets_row body)) (front code b W rest has_w)) (row_more b (row_code body (depth + 1) b) (leave_code (lets_row body)) T refl more_t) m_b))
+                  (fine_on code (mark 0 k) (mark 1 k) ct Z (flip_past test 0 k) (flip_fine test 0 k fit.1)
+                  (fine code _ _ (omega arith) (omega arith) tt (more_l, m_l ∙ sym z) tt, tt))),
+            ),
+          ),
+        )
     stmt_fine (For' x low high q body seq at) depth p k fit has more m =
         let row = row_code body (depth + 1) in
         let tail = instr.Save (high_of depth) ∷ instr.Declare ∷ instr.Enter depth ∷ [] in
@@ -335,22 +342,42 @@ module _ (code : List Instr) where
         let y : after (instr.Zero (t + 4)) (past (mark 0 I) (instr.Push (pos 1) ∷ instr.FoldSave x.id fold.Add ∷ instr.Load x.id ∷ instr.Load (high_of depth) ∷ instr.Binary op.Ge at ∷ [])) ≡ mark 0 I = mark_is _ _ _ _ (omega arith) (omega arith) in
         fine_on code (mark 0 k) (mark 0 I) bounds (head ++ rest) (bounds_past low high depth k)
         (then_fine low _ 0 k fit.1 (then_fine high tail 1 k fit.2
-        (fine code _ _ (omega arith) (omega arith) tt tt (omega (arith, fit.0)), (fine code _ _ (omega arith) (omega arith) tt tt tt, (fine code _ _ (omega arith) (omega arith) tt tt (omega (arith, fit.0)), tt)))))
-        (fine code _ _ (omega arith) (omega arith) tt tt (omega (arith, fit.4)),
-        (fine code _ _ (omega arith) (omega arith) tt tt (omega (arith, fit.0)),
-        (fine code _ _ (omega arith) (omega arith) tt tt tt,
-        (fine code _ _ (omega arith) (omega arith) tt (more_e, m_e ∙ sym z) tt,
-        (fine code _ _ (omega arith) (omega arith) tt tt (omega (arith, fit.0)),
-        fine_as code (past (mark 0 I) head) (mark 0 I) rest at_5
-        (fine_on code (mark 0 I) (mark 0 (I + lets_row body)) B (G ++ N) inner (row_fine body (depth + 1) b I fit.3 (front code b B (G ++ N) has_b) more_b m_b)
-        (fine_on code (mark 0 (I + lets_row body)) (mark 0 I) G N (leave_past (lets_row body) I) (leave_fine (lets_row body) I)
-        (fine code _ _ (omega arith) (omega arith) tt tt tt,
-        (fine code _ _ (omega arith) (omega arith) tt tt tt,
-        (fine code _ _ (omega arith) (omega arith) tt tt (omega (arith, fit.4)),
-        (fine code _ _ (omega arith) (omega arith) tt tt (omega (arith, fit.0)),
-        (fine code _ _ (omega arith) (omega arith) tt tt tt,
-        (fine code _ _ (omega arith) (omega arith) tt (more_4, m_4 ∙ sym y) tt,
-        (fine code _ _ (omega arith) (omega arith) tt tt tt, tt))))))))))))))
+        (fine code _ _ (omega arith) (omega arith) tt tt (omega (arith, fit.0)), (fine code _ _ (omega arith) (omega arith) tt tt tt, (fine code _ _ (omega arith) (omega arith) tt tt (omega (arith, fit.0)), tt))))) (
+          fine code _ _ (omega arith) (omega arith) tt tt (omega (arith, fit.4)),
+          (
+            fine code _ _ (omega arith) (omega arith) tt tt (omega (arith, fit.0)),
+            (
+              fine code _ _ (omega arith) (omega arith) tt tt tt,
+              (
+                fine code _ _ (omega arith) (omega arith) tt (more_e, m_e ∙ sym z) tt,
+                (
+                  fine code _ _ (omega arith) (omega arith) tt tt (omega (arith, fit.0)),
+                  fine_as code (past (mark 0 I) head) (mark 0 I) rest at_5
+                      (fine_on code (mark 0 I) (mark 0 (I + lets_row body)) B (G ++ N) inner (row_fine body (depth + 1) b I fit.3 (front code b B (G ++ N) has_b) more_b m_b)
+                      (fine_on code (mark 0 (I + lets_row body)) (mark 0 I) G N (leave_past (lets_row body) I) (leave_fine (lets_row body) I) (
+                        fine code _ _ (omega arith) (omega arith) tt tt tt,
+                        (
+                          fine code _ _ (omega arith) (omega arith) tt tt tt,
+                          (
+                            fine code _ _ (omega arith) (omega arith) tt tt (omega (arith, fit.4)),
+                            (
+                              fine code _ _ (omega arith) (omega arith) tt tt (omega (arith, fit.0)),
+                              (
+                                fine code _ _ (omega arith) (omega arith) tt tt tt,
+                                (
+                                  fine code _ _ (omega arith) (omega arith) tt (more_4, m_4 ∙ sym y) tt,
+                                  (fine code _ _ (omega arith) (omega arith) tt tt tt, tt),
+                                ),
+                              ),
+                            ),
+                          ),
+                        ),
+                      ))),
+                ),
+              ),
+            ),
+          ),
+        )
     stmt_fine (Print e at) depth p k fit has more m = then_fine e _ 0 k fit (fine code _ _ (omega arith) (omega arith) tt tt tt, tt)
 
     pub row_fine : {j : _} (row : Row_of-Stmt j) (depth p k : ℕ) → IsRowFit row depth → Stands code p (row_code row depth p) → p + length (row_code row depth p) < length code → mark_at code p ≡ mark 0 k → AreFine code (mark 0 k) (row_code row depth p)

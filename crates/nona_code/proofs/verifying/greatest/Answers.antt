@@ -14,7 +14,7 @@ loop-known-preserved c =
     let most = c.loop-known.most in
     let now = c.match-known.most in
     elim c.match-known.branch [
-      in-Some w ↦
+      | in-Some w ↦
           let has : HasMark marks n w.in-Some.mark = slice_get-get_or marks n None c.loop-known-test.true ∙ ap Some w.in-Some.is in
           record {
             depth = subst (IsSoFar (λ m. m.depth) marks (n + 1)) (sym (ap (λ (m : Mark). m.depth) w.most-is ∙ w.max.ensures)) (seen (λ m. m.depth) marks n most.depth w.in-Some.mark has c.loop-known.invariant.depth);
