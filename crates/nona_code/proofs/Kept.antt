@@ -1,18 +1,17 @@
 -- An instruction keeps the hidden scalars and counters that it doesn't use.
-use Rattle.std.proofs.Common.{◌≡◌, ℕ, zero, suc, ◌+◌, ◌-◌, ◌<◌, ◌≤◌, Bool, true, false, if◌then◌else◌, ℤ, pos, negsuc, List, [], ◌∷◌, length, Some, refl, sym, ap, subst, ◌∙◌, arith}
-use Rattle.std.specs.Prelude.{drop, Result, Ok, Err, nat_lt, nat_le, slice_get, slice_set, slice_index_or, unsigned_abs}
+use Rattle.std.proofs.Common.{◌≡◌, ℕ, ◌+◌, ◌-◌, ◌<◌, Bool, true, false, if◌then◌else◌, ℤ, pos, length, refl, ap, ◌∙◌, arith}
+use Rattle.std.specs.Prelude.{drop, nat_lt, nat_le, slice_set, slice_index_or, unsigned_abs}
 use Rattle.std.proofs.lemmas.Bool.{ltb-false}
 use Rattle.std.proofs.lemmas.List.{length-set, drop-set-lt}
 use Rattle.nona_num.specs.Folds.{join_of}
-use Rattle.nona_tree.specs.declared.outcomes.Trap.{Trap}
-use Rattle.nona_tree.specs.Memory.{Memory, scalar_at, cells_of, cell_at, assign, put_cell, cut_to}
-use Rattle.nona_tree.specs.Value.{place_of, apply, is_zero}
+use Rattle.nona_tree.specs.Memory.{Memory, scalar_at, cells_of, cell_at, assign, put_cell}
+use Rattle.nona_tree.specs.Value.{place_of, apply}
 use Rattle.nona_tree.specs.Run.{starved}
 use Rattle.nona_code.specs.declared.instr.Instr.{Instr}
 use Rattle.nona_code.specs.declared.instr.Instr.TheVariants as instr
 use Rattle.nona_code.specs.declared.registers.Registers.{Registers}
 use Rattle.nona_code.specs.Machine.{State, ended, Next, goes, halts, act, where_so, given, pushed, stored, leave, first_hidden}
-use Rattle.nona_code.specs.Rule.{IsNumbered, UsesBelow}
+use Rattle.nona_code.specs.Rule.{IsNumbered}
 use Rattle.nona_code.specs.Ready.{state_of}
 use Rattle.nona_code.specs.Stops.{KeepsFrom}
 use Rattle.nona_code.proofs.Readiness.{Moves, one_moves, two_moves, so_moves, so_moves_if, if_moves, given_moves}

@@ -1,5 +1,5 @@
 -- An instruction that isn't stuck has what it needs, and leads on by the stack rule.
-use Rattle.std.proofs.Common.{◌≡◌, ℕ, zero, suc, ◌+◌, ◌-◌, ◌<◌, ◌≤◌, Bool, true, false, if◌then◌else◌, ℤ, pos, negsuc, List, [], ◌∷◌, length, Some, refl, sym, ap, subst, ◌∙◌, arith, length-append, length-take}
+use Rattle.std.proofs.Common.{◌≡◌, ℕ, ◌+◌, ◌-◌, ◌≤◌, Bool, true, false, if◌then◌else◌, ℤ, pos, List, [], ◌∷◌, length, Some, refl, sym, ap, subst, arith, length-append, length-take}
 use Rattle.std.specs.Prelude.{Result, Ok, Err, nat_lt, nat_le, slice_get, slice_set, slice_index_or, ◌⊎◌, unsigned_abs}
 use Rattle.std.proofs.Common.{inl, inr}
 use Rattle.std.proofs.lemmas.Bool.{ltb-true, leb-true}
@@ -8,13 +8,12 @@ use Rattle.nona_num.specs.Folds.{join_of}
 use Rattle.nona_tree.specs.declared.outcomes.Trap.{Trap}
 use Rattle.nona_tree.specs.Memory.{Memory, scalar_at, cells_of, cell_at, assign, put_cell, cut_to}
 use Rattle.nona_tree.specs.Value.{place_of, apply, is_zero}
-use Rattle.nona_tree.specs.Run.{Ran, starved}
+use Rattle.nona_tree.specs.Run.{starved}
 use Rattle.nona_code.specs.declared.instr.Instr.{Instr}
 use Rattle.nona_code.specs.declared.instr.Instr.TheVariants as instr
-use Rattle.nona_code.specs.Machine.{State, Halt, ended, region, stuck, Next, goes, halts, act, load, save, turn, take_one, take_two, where_so, given, given_by, pushed, stored, leave, is_place, first_hidden}
-use Rattle.nona_code.specs.Ready.{with_one, with_two, IsThere, IsThereBy, IsReady}
-use Rattle.nona_code.specs.declared.marks.Mark.{Mark}
-use Rattle.nona_code.specs.Rule.{Way, begins, goes_on, after, takes, puts, leaves, declares, IsNext, IsSound}
+use Rattle.nona_code.specs.Machine.{State, ended, Next, goes, halts, act, take_one, take_two, where_so, given, given_by, pushed, stored, leave, first_hidden}
+use Rattle.nona_code.specs.Ready.{with_one, with_two, IsThereBy, IsReady}
+use Rattle.nona_code.specs.Rule.{Way, goes_on, takes, puts, leaves, declares, IsNext, IsSound}
 use Rattle.nona_code.proofs.Nearer.{NotStuck}
 
 one_ready : (P : ℤ → Type 0) (st : List ℤ) (go : ℤ → List ℤ → Next) → ((v : ℤ) (rest : List ℤ) → NotStuck (go v rest) → P v) → NotStuck (take_one st go) → with_one st P

@@ -1,12 +1,11 @@
 -- Marks that are closed are all the marks of the code.
-use Rattle.std.proofs.Common.{◌≡◌, ◌≢◌, ℕ, zero, suc, ◌+◌, ◌-◌, ◌<◌, ◌≤◌, List, [], ◌∷◌, length, Option, Some, None, refl, sym, ap, subst, ◌∙◌, arith, ⊎_elim}
-use Rattle.std.specs.Prelude.{slice_get, ◌⊎◌}
-use Rattle.std.specs.List.{Contains}
-use Rattle.std.proofs.lemmas.Option.{slice_get_within, slice_get_past}
+use Rattle.std.proofs.Common.{◌≡◌, ◌≢◌, ℕ, ◌≤◌, List, length, Option, Some, sym, ◌∙◌, arith}
+use Rattle.std.specs.Prelude.{slice_get}
+use Rattle.std.proofs.lemmas.Option.{slice_get_within}
 use Rattle.nona_code.specs.declared.instr.Instr.{Instr}
 use Rattle.nona_code.specs.declared.marks.Mark.{Mark}
-use Rattle.nona_code.specs.Rule.{Way, begins, goes_on, takes, leaves, after, start, IsNext, EndsEmpty, HasTarget, IsNumbered, UsesBelow, IsSound}
-use Rattle.nona_code.specs.Marked.{HasMark, IsPassed, AreFound, IsSearch}
+use Rattle.nona_code.specs.Rule.{Way, begins, goes_on, start, HasTarget, UsesBelow, IsSound}
+use Rattle.nona_code.specs.Marked.{HasMark, IsPassed}
 
 -- nothing is left to be looked at
 pub record IsClosed (code : List Instr) (marks : List (Option Mark)) : Type 0 where

@@ -1,21 +1,20 @@
 -- What each instruction of code that stops says.
-use Rattle.std.proofs.Common.{◌≡◌, ℕ, zero, suc, ◌+◌, ◌-◌, ◌<◌, ◌≤◌, List, [], ◌∷◌, ◌++◌, length, Option, Some, None, refl, sym, ap, subst, ◌∙◌, arith}
-use Rattle.std.specs.Prelude.{slice_get, slice_index_or, ℤ, Bool}
+use Rattle.std.proofs.Common.{◌≡◌, ℕ, zero, suc, ◌+◌, ◌-◌, ◌≤◌, List, [], length, Option, Some, refl, sym, ap, subst, arith}
+use Rattle.std.specs.Prelude.{slice_get, slice_index_or, ℤ}
 use Rattle.std.specs.List.{AllByRecursion}
 use Rattle.std.proofs.lemmas.Option.{get_or_from_slice_get}
 use Rattle.nona_tree.specs.Deeds.{Deed}
 use Rattle.nona_tree.proofs.DeedLaws.{each_of_both}
 use Rattle.nona_code.specs.declared.instr.Instr.{Instr}
 use Rattle.nona_code.specs.declared.instr.Instr.TheVariants as instr
-use Rattle.nona_code.specs.Machine.{State, Halt, Next, goes, halts, act, act_deeds, open_at, step_by, Trace, noting, onward, trace}
-use Rattle.nona_store.specs.Banks.{Limits, HasRoom}
+use Rattle.nona_code.specs.Machine.{State, Next, goes, act, act_deeds, open_at, step_by, Trace, noting, trace}
+use Rattle.nona_store.specs.Banks.{HasRoom}
 use Rattle.nona_code.specs.Pile.{Pile}
-use Rattle.nona_code.specs.Ready.{IsReady, HasPlace}
-use Rattle.nona_code.specs.declared.marks.Mark.{Mark}
-use Rattle.nona_code.specs.Rule.{Way, begins, goes_on, after, takes, puts, leaves, declares, IsSound}
+use Rattle.nona_code.specs.Ready.{HasPlace}
+use Rattle.nona_code.specs.Rule.{Way, begins, goes_on, takes, puts}
 use Rattle.nona_code.specs.Stops.{IsOver, Starts}
-use Rattle.nona_code.proofs.Nearer.{steps_left, one_nearer, stops_here, NotStuck, IsAt, is_at}
-use Rattle.nona_code.proofs.Readiness.{ready, Moves, Follows, follows}
+use Rattle.nona_code.proofs.Nearer.{NotStuck, is_at}
+use Rattle.nona_code.proofs.Readiness.{Moves, Follows}
 
 -- the instruction at hand
 pub record IsHere (code : List Instr) (n : ℕ) (s : State) (i : Instr) : Type 0 where

@@ -1,29 +1,26 @@
 -- A unit runs as its statement.
-use Rattle.std.proofs.Common.{◌≡◌, ℕ, ◌+◌, ◌<◌, ◌≤◌, Bool, true, false, List, [], length, Option, Some, None, ℤ, pos, refl, sym, ap, subst, ◌∙◌, arith}
+use Rattle.std.proofs.Common.{◌≡◌, ℕ, ◌+◌, ◌≤◌, List, [], length, Option, Some, None, ℤ, pos, sym, ap, subst, ◌∙◌, arith}
 use Rattle.std.specs.Prelude.{replicate, drop}
 use Rattle.std.proofs.lemmas.List.{length-replicate}
 use Rattle.std.specs.List.{AllByRecursion}
 use Rattle.nona_tree.specs.declared.outcomes.Outcome.{Outcome}
-use Rattle.nona_tree.specs.declared.outcomes.Outcome.TheVariants as outcome
 use Rattle.nona_tree.specs.declared.trees.Stmt.{Stmt}
 use Rattle.nona_tree.specs.Memory.{Memory}
-use Rattle.nona_tree.specs.Run.{Ran, done, run}
+use Rattle.nona_tree.specs.Run.{Ran, run}
 use Rattle.nona_tree.specs.Scope.{IsScoped}
 use Rattle.nona_tree.specs.Numbers.{AreI64}
 use Rattle.nona_tree.specs.Deeds.{Deed, deeds}
 use Rattle.nona_code.specs.declared.instr.Instr.{Instr}
 use Rattle.nona_code.specs.declared.registers.Registers.{Registers}
 use Rattle.nona_code.specs.Machine.{State, Halt, ended, region, stuck, Trace, trace, begun, most_steps}
-use Rattle.nona_store.specs.Banks.{Limits, Allows, HasRoom}
+use Rattle.nona_store.specs.Banks.{HasRoom}
 use Rattle.nona_code.specs.Pile.{Pile}
 use Rattle.nona_code.specs.Ready.{state_of}
-use Rattle.nona_code.specs.declared.marks.Mark.{Mark}
-use Rattle.nona_code.specs.Rule.{Way, UsesBelow}
+use Rattle.nona_code.specs.Rule.{UsesBelow}
 use Rattle.nona_code.specs.SoundView.{SoundView, IsSoundView}
 use Rattle.nona_code.specs.Stands.{StandsFor, on_cells}
 use Rattle.nona_code.specs.Rested.{IsRested, AreKept}
 use Rattle.nona_code.specs.Stops.{IsOver, KeepsFrom, Starts}
-use Rattle.nona_code.specs.Units.{IsUnit}
 
 pub start_is : (f : Registers) (m : Memory) → f.stack.items ≡ [] → f.hidden.items ≡ replicate 256 (pos 0) → f.counters.items ≡ replicate 256 0 → state_of f 0 m ≡ begun m
 start_is f m a b c = λ i. let s : State = record { pc = 0; stack = a i; hidden = b i; counters = c i; store = m } in s

@@ -1,5 +1,5 @@
 -- How code stops, as its frame says.
-use Rattle.std.specs.Prelude.{◌≡◌, ◌<◌, ◌≤◌, ℕ, ◌+◌, Bool, false, [], List, length, drop, Option, Some, None}
+use Rattle.std.specs.Prelude.{◌≡◌, ◌≤◌, ℕ, ◌+◌, Bool, false, [], List, length, drop, Option, Some, None}
 use Rattle.nona_tree.specs.Memory.{Memory}
 use Rattle.nona_code.specs.declared.instr.Instr.{Instr}
 use Rattle.nona_code.specs.declared.registers.Registers.{Registers}

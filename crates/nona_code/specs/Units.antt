@@ -1,7 +1,6 @@
 -- What a unit needs, and how it ends.
 use Rattle.std.specs.Prelude.{◌≡◌, ℕ, ◌+◌, Bool, false, length}
 use Rattle.std.specs.List.{AllByRecursion}
-use Rattle.nona_tree.specs.declared.outcomes.Outcome.{Outcome}
 use Rattle.nona_tree.specs.declared.outcomes.Outcome.TheVariants as outcome
 use Rattle.nona_tree.specs.declared.trees.Stmt.{Stmt}
 use Rattle.nona_tree.specs.Memory.{Memory}

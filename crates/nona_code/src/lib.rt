@@ -8,6 +8,7 @@
 mod answers;
 mod frame;
 mod instr;
+mod limits;
 mod marks;
 mod opens;
 mod registers;
@@ -21,6 +22,7 @@ mod verifying;
 
 pub use frame::{Frame, UnitEnd, stores_allow_all};
 pub use instr::Instr;
+pub use limits::{FIRST_HIDDEN, INSTRUCTIONS, PLACES};
 pub use sound::Sound;
 pub use verifying::verify;
 

@@ -2,11 +2,9 @@ ghost use Rattle.std.specs.Prelude.{◌≡◌, ◌≤◌, [], pos, length, drop,
 ghost use Rattle.nona_code.specs.Machine.{places};
 ghost use Rattle.nona_code.specs.Rested.{IsRested, AreKept};
 
+use crate::limits::PLACES;
 use crate::stack::Stack;
 use std::alloc::{AllocError, Global};
-
-/// How many hidden scalars and how many counters there are.
-pub const PLACES: usize = 256;
 
 /// What code works on beside its bank: a stack of numbers, hidden scalars, and counters of turns.
 #[derive(Drop)]
@@ -23,8 +21,8 @@ impl Registers {
         ensures room { IfOk result (λ r. r.stack.room ≡ room) }
     {
         let stack = Stack::with_room(alloc, room)?;
-        let hidden = vec![in alloc; 0i64; PLACES]?;
-        let counters = vec![in alloc; 0u64; PLACES]?;
+        let hidden = vec![in alloc; 0i64; PLACES as usize]?;
+        let counters = vec![in alloc; 0u64; PLACES as usize]?;
         Ok(Registers {
             stack,
             hidden,

@@ -12,15 +12,13 @@ ghost use Rattle.nona_code.specs.Ready.{IsReady, IsStep, IsThereIn, HasPlace, En
 
 use crate::answers::{from_bool, is_no, locate, operate};
 use crate::instr::Instr;
+use crate::limits::FIRST_HIDDEN;
 use crate::opens::count_open;
 use crate::registers::Registers;
 use nona_num::{Fold, neg};
 use nona_store::Bank;
 use nona_tree::{Outcome, Trap};
 use std::alloc::AllocError;
-
-/// The least id that names a hidden scalar.
-pub const FIRST_HIDDEN: u32 = 2147483648;
 
 /// What comes of one instruction: the next one, or how the code stops.
 #[derive(Clone, Copy, Debug, PartialEq, Eq)]

@@ -6,7 +6,7 @@ ghost use Rattle.nona_code.specs.Machine.{first_hidden, places};
 ghost use Rattle.nona_code.specs.Rule.{IsNumbered, UsesBelow};
 
 use crate::instr::Instr;
-use crate::step::FIRST_HIDDEN;
+use crate::limits::FIRST_HIDDEN;
 
 /// So many of the hidden scalars and of the counters.
 #[derive(Clone, Copy, Debug, PartialEq, Eq)]

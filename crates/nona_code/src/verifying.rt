@@ -9,6 +9,7 @@ ghost use Rattle.nona_code.specs.Rule.{HasTarget, IsNumbered, IsSound, UsesBelow
 ghost use Rattle.nona_code.specs.SoundView.{IsVerdict};
 
 use crate::instr::Instr;
+use crate::limits::{FIRST_HIDDEN, INSTRUCTIONS, PLACES};
 use crate::marks::Mark;
 use crate::search::find_marks;
 use crate::sound::Sound;
@@ -21,9 +22,9 @@ fn is_numbered(instr: Instr) -> bool
     ensures no_so { result ≡ false → IsNumbered places places instr → ⊥ }
 {
     match instr {
-        Instr::Load(id) | Instr::Save(id) => id < 2147483904,
-        Instr::Enter(counter) => counter < 256,
-        Instr::Turn(counter, _) => counter < 256,
+        Instr::Load(id) | Instr::Save(id) => id < FIRST_HIDDEN + PLACES,
+        Instr::Enter(counter) => counter < PLACES,
+        Instr::Turn(counter, _) => counter < PLACES,
         _ => true,
     }
 }
@@ -80,7 +81,7 @@ fn greatest(marks: &[Option<Mark>]) -> Mark
 pub fn verify(alloc: Global, code: Vec<Instr>) -> Result<Option<Sound>, AllocError>
     ensures { IfOk result (IsVerdict code.items) }
 {
-    if code.len() >= 2147483648 {
+    if code.len() >= INSTRUCTIONS {
         return Err(AllocError);
     }
     if !are_placed(code.as_slice()) {

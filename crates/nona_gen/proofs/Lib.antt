@@ -8,6 +8,7 @@ pub mod Lands
 pub mod Opened
 pub mod Steady
 pub mod Turning
+pub mod Indices
 pub mod Runs
 pub mod Standing
 pub mod Marks

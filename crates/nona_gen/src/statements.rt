@@ -5,7 +5,7 @@ ghost use Rattle.nona_code.specs.declared.instr.Instr.TheVariants.{Zero, Jump};
 ghost use Rattle.nona_gen.specs.Code.{expr_code, flip_last, flip_code, place_code, leave_code, body_code, loop_bounds, for_code, loop_code, lets_all, all_code, stmt_code};
 
 use crate::emit::{emit_expr, put};
-use nona_code::Instr;
+use nona_code::{FIRST_HIDDEN, INSTRUCTIONS, Instr};
 use nona_num::Fold;
 use nona_tree::{Access, Expr, Loop, Op, Stmt};
 use std::alloc::AllocError;
@@ -22,7 +22,7 @@ fn here(code: &[Instr]) -> Result<u32, AllocError>
     ensures place { IfOk result (λ p. p ≡ length code.now) }
     ensures small { IfOk result (λ p. p < 2 ^ 31) }
 {
-    if code.len() < 2147483648 {
+    if code.len() < INSTRUCTIONS {
         Ok(code.len() as u32)
     } else {
         Err(AllocError)
@@ -41,7 +41,7 @@ fn one_more(count: u32) -> Result<u32, AllocError>
     ensures next { IfOk result (λ n. n ≡ count + 1) }
     ensures small { OnOk result (count < 2 ^ 31) }
 {
-    if count < 2147483648 {
+    if count < FIRST_HIDDEN {
         Ok(count + 1)
     } else {
         Err(AllocError)
@@ -146,7 +146,7 @@ fn emit_bounds(low: &Expr, high: &Expr, depth: u32, code: &mut Vec<Instr>) -> Re
     put_all(
         code,
         &[
-            Instr::Save(2147483648 + depth),
+            Instr::Save(FIRST_HIDDEN + depth),
             Instr::Declare,
             Instr::Enter(depth),
         ],
@@ -205,7 +205,7 @@ fn emit_for(l: &Loop, depth: u32, code: &mut Vec<Instr>) -> Result<(), AllocErro
 {
     let deeper = one_more(depth)?;
     let id = l.index.id;
-    let high = 2147483648 + depth;
+    let high = FIRST_HIDDEN + depth;
     emit_bounds(&l.low, &l.high, depth, code)?;
     let top = here(code)?;
     put_all(

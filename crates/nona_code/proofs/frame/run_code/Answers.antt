@@ -1,12 +1,6 @@
-use Rattle.std.proofs.Common.{rules, ◌≡◌, ◌<◌, ◌≤◌, ◌+◌, ◌^◌, ℕ, [], length, refl, sym, ap, subst, ◌∙◌, arith}
-use Rattle.std.specs.List.{AllByRecursion}
-use Rattle.nona_tree.specs.Run.{run}
-use Rattle.nona_tree.specs.Deeds.{deeds}
-use Rattle.nona_code.specs.Machine.{trace, most_steps}
+use Rattle.std.proofs.Common.{◌<◌, ◌^◌, length, sym, subst}
 use Rattle.nona_code.specs.Rule.{IsSound}
 use Rattle.nona_code.specs.Stands.{StandsFor}
-use Rattle.nona_store.specs.Banks.{Allows}
-use Rattle.nona_code.specs.Ready.{state_of}
 use Rattle.nona_code.proofs.UnitRuns.{kept_after, unit_trace, unit_over, unit_allowed, unit_starts, same_run, ended_as, no_region}
 use Rattle.nona_code.proofs.frame.run_code.Goals as goal
 

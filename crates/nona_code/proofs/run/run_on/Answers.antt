@@ -1,11 +1,11 @@
-use Rattle.std.proofs.Common.{rules, ◌≡◌, ◌<◌, ◌≤◌, ◌+◌, ◌^◌, ℕ, [], ◌∷◌, length, refl, sym, ap, subst, ◌∙◌, arith, Some, FitsSigned, w64, pos, slice_index_or, to_z, of_z}
+use Rattle.std.proofs.Common.{rules, ◌+◌, length, refl, sym, ap, subst, ◌∙◌, arith, Some, FitsSigned, w64, pos, slice_index_or, to_z, of_z}
 use Rattle.std.specs.List.{AllByRecursion}
 use Rattle.std.proofs.lemmas.Int.{to_z-of_z}
 use Rattle.nona_code.specs.declared.instr.Instr.TheVariants as instr
-use Rattle.nona_code.specs.Machine.{State, Next, goes, act, act_deeds, open_at, trace, most_steps, region, ended}
-use Rattle.nona_code.specs.Stops.{IsOver, HasStopped, Starts}
-use Rattle.nona_store.specs.Banks.{Limits, Allows, HasRoom}
-use Rattle.nona_code.specs.Ready.{IsReady, IsStep, HasPlace, state_of}
+use Rattle.nona_code.specs.Machine.{act, act_deeds, open_at, trace, most_steps, region}
+use Rattle.nona_code.specs.Stops.{IsOver}
+use Rattle.nona_store.specs.Banks.{Limits, Allows}
+use Rattle.nona_code.specs.Ready.{HasPlace, state_of}
 use Rattle.nona_code.proofs.Nearer.{one_nearer, stops_here}
 use Rattle.nona_code.proofs.Readiness.{Follows, ready, follows}
 use Rattle.nona_code.proofs.Running.{here, did_here, follows_first, has_place, room_here, end_rest, did_rest, moved}

@@ -1,4 +1,4 @@
-use Rattle.std.proofs.Common.{◌≡◌, ◌<◌, ◌≤◌, ℕ, length}
+use Rattle.std.proofs.Common.{◌≡◌, ℕ, length}
 use Rattle.std.specs.List.{AllByRecursion}
 use Rattle.nona_code.specs.Machine.{trace, most_steps}
 use Rattle.nona_store.specs.Banks.{Allows}

@@ -1,4 +1,4 @@
-use Rattle.std.proofs.Common.{rules, ◌≡◌, ◌<◌, ◌≤◌, ◌+◌, ◌^◌, ℕ, [], ◌∷◌, length, slice_index_or, true, sym, ap, ◌∙◌, arith, FitsSigned, to_z, of_z, w64, ℤ}
+use Rattle.std.proofs.Common.{w64}
 use Rattle.std.proofs.lemmas.Int.{to_z-of_z}
 use Rattle.nona_code.specs.Machine.{open_at}
 use Rattle.nona_code.proofs.Steps.{save_is}

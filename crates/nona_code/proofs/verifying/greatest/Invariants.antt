@@ -1,6 +1,3 @@
-use Rattle.std.proofs.Common.{◌≡◌, ◌<◌, ◌≤◌, ℕ, Some}
-use Rattle.nona_code.specs.declared.marks.Mark.{Mark}
-use Rattle.nona_code.specs.Marked.{HasMark}
 use Rattle.nona_code.proofs.Highest.{IsSoFar}
 use Rattle.nona_code.proofs.verifying.greatest.Given as goal
 

@@ -15,5 +15,5 @@ of-requires c =
     let numbered = subst (UsesBelow 256 256) c.as_slice.ensures.value (c.are_placed.ensures.numbered c.if-not-are_placed.false) in
     let highest = subst (λ ms. IsHighest ms c.greatest-most.result) c.as_slice-in-Some.ensures.value c.greatest-most.ensures in
     let below = subst (UsesBelow uses.hidden uses.counters) c.as_slice-in-Some-2.ensures.value c.uses_of_all-uses.ensures.uses in
-    let short : length code < 2 ^ 31 = omega (arith, c.if-len-ge2147483648.false, c.len.ensures, c.as_slice.ensures.len, ap length c.as_slice.ensures.value) in
+    let short : length code < 2 ^ 31 = omega (arith, c.if-len-ge-INSTRUCTIONS.false, c.len.ensures, c.as_slice.ensures.len, ap length c.as_slice.ensures.value) in
     search_view code c.in_ok-find_marks.field-0 c.in-Some.marks c.greatest-most.result uses c.in-Some.is found targets numbered highest below c.uses_of_all-uses.ensures.hidden c.uses_of_all-uses.ensures.counters short
