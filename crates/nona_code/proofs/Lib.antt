@@ -1,0 +1,15 @@
+pub mod Placed
+pub mod Traces
+pub mod Piles
+pub mod Steps
+pub mod Nearer
+pub mod Readiness
+pub mod Running
+pub mod UnitRuns
+pub mod Rules
+pub mod Searching
+pub mod Kept
+pub mod Highest
+pub mod Numbering
+pub mod Resting
+pub mod Allowed

@@ -1,0 +1,10 @@
+pub mod Machine
+pub mod Pile
+pub mod Ready
+pub mod Rested
+pub mod Rule
+pub mod Stops
+pub mod Stands
+pub mod SoundView
+pub mod Units
+pub mod Marked

@@ -1,0 +1,15 @@
+pub mod CodeEquations
+pub mod Fewer
+pub mod Fits
+pub mod Emitting
+pub mod Patching
+pub mod Values
+pub mod Lands
+pub mod Opened
+pub mod Steady
+pub mod Turning
+pub mod Indices
+pub mod Runs
+pub mod Standing
+pub mod Marks
+pub mod Keeping
