@@ -1,0 +1,7 @@
+pub mod Affine
+pub mod References
+pub mod Verdicts
+pub mod Separate
+pub mod Calm
+pub mod Rules
+pub mod Touched
