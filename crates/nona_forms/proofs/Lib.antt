@@ -9,3 +9,5 @@ pub mod Separate
 pub mod Sound
 pub mod Meanings
 pub mod Cascade
+pub mod Steadier
+pub mod Touching

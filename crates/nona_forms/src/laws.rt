@@ -1,19 +1,24 @@
 //! Laws of the forms of a loop. Each function does nothing when it is called: its contract is the law.
 
-ghost use Rattle.std.specs.Prelude.{◌≡◌, ℕ, ◌<◌, ◌*◌, ℤ, pos, ◌+ℤ◌, ◌*ℤ◌, List, [], true, false, ◌≤ℤ◌, ◌<ℤ◌, IsTrue, Ok, Some};
+ghost use Rattle.std.specs.Prelude.{◌≡◌, ℕ, ◌<◌, ◌*◌, ℤ, pos, ◌+ℤ◌, ◌*ℤ◌, List, [], true, false, ◌≤ℤ◌, ◌<ℤ◌, All, IsTrue, Ok, Some};
 ghost use Rattle.std.specs.Int.{IsGcd};
 ghost use Rattle.std.specs.declared.option.Option.{Option};
 ghost use Rattle.std.specs.List.{Contains};
 ghost use Rattle.nona_tree.specs.declared.trees.Expr.{Expr};
 ghost use Rattle.nona_tree.specs.declared.trees.Loop.{Loop};
-ghost use Rattle.nona_tree.specs.Memory.{Memory, scalar_at};
+ghost use Rattle.nona_tree.specs.declared.trees.Stmt.{For};
+ghost use Rattle.nona_tree.specs.Deeds.{deeds_all};
+ghost use Rattle.nona_tree.specs.Entries.{Entry, after};
+ghost use Rattle.nona_tree.specs.Memory.{Memory, scalar_at, declare};
 ghost use Rattle.nona_tree.specs.Numbers.{IsI64, IsI64Expr, AreI64};
+ghost use Rattle.nona_tree.specs.Scope.{IsSteady};
 ghost use Rattle.nona_tree.specs.Value.{value_of};
 ghost use Rattle.nona_forms.specs.Affine.{Affine, form_of, form_at};
 ghost use Rattle.nona_forms.specs.References.{Reference, references_all, names_of};
 ghost use Rattle.nona_forms.specs.Verdicts.{spot_of, shape_of, is_apart, verdict_of, gcd_of, divides, is_distance, has_multiple};
 ghost use Rattle.nona_forms.specs.Separate.{IsLoopEntry, Lies, AreSeparate};
 ghost use Rattle.nona_forms.specs.Rules.{verdict_by_rules};
+ghost use Rattle.nona_forms.specs.Touched.{MayBegin, IsOfAccess};
 ghost use Rattle.nona_forms.specs.declared.shapes.LoopShape.{LoopShape};
 ghost use Rattle.nona_forms.specs.declared.shapes.Spot.{Spot};
 
@@ -45,4 +50,13 @@ pub fn pair_laws()
         → has_multiple fixed a low high ≡ true }
     ensures reaches { (fixed : Option (ℤ × ℤ)) (a : ℕ) (low high : ℤ) → 0 < a → has_multiple fixed a low high ≡ true
         → (d : ℕ) × (0 < d) × (low ≤ℤ pos (a * d)) × (pos (a * d) ≤ℤ high) × (is_distance fixed d ≡ true) }
+{}
+
+/// Says that what an iteration does to cells, it does by the accesses of the loop: from a store in which it may begin, each of
+/// its deeds on a cell is of an access that touches the cell in that iteration. It may begin where those before it end.
+pub fn deeds_touch()
+    ensures touched { (l : Loop) (entry : Memory) (low last i : ℤ) (n : ℕ) (m : Memory) → IsLoopEntry l entry low last → IsSteady (For l) [] → low ≤ℤ i → i <ℤ last
+        → MayBegin l entry m → All (IsOfAccess l entry i) (deeds_all l.body n (declare i m)) }
+    ensures begins { (e : Entry) (k : ℕ) → IsLoopEntry e.looped e.store e.low e.last → IsSteady (For e.looped) [] → (e.low +ℤ pos k) ≤ℤ e.last
+        → MayBegin e.looped e.store (after e k).store }
 {}
