@@ -22,7 +22,8 @@ use Rattle.nona_forms.specs.Affine.{Affine, terms_at, form_at}
 use Rattle.nona_forms.specs.declared.shapes.InnerLoop.{InnerLoop}
 use Rattle.nona_forms.specs.declared.shapes.Spot.{Spot}
 use Rattle.nona_forms.specs.declared.shapes.LoopShape.{LoopShape}
-use Rattle.nona_forms.specs.Verdicts.{is_empty, fixed_inner, bounds_of, all_fixed, range_in, sum_range, times_range, box, inner_box, invariant_terms, inner_terms, coefficient_of, same_terms, gcd_of, gcd_terms, divides, is_distance, has_multiple, has_distance, is_outside, some_empty, is_undivided, inner_part, near_of, far_of, is_too_near, is_too_far, are_apart, if_form, is_apart}
+use Rattle.nona_forms.specs.Boxes.{sum_range, times_range, box}
+use Rattle.nona_forms.specs.Verdicts.{is_empty, fixed_inner, bounds_of, all_fixed, range_in, inner_box, invariant_terms, inner_terms, coefficient_of, same_terms, gcd_of, gcd_terms, divides, is_distance, has_multiple, has_distance, is_outside, some_empty, is_undivided, inner_part, near_of, far_of, is_too_near, is_too_far, are_apart, if_form, is_apart}
 use Rattle.nona_forms.proofs.Sums.{sum_times, times_sum, minus_is, less_is}
 use Rattle.nona_forms.proofs.Division.{Divides, divides_sum, divides_times, divides_minus, divides_from, gcd_divides, all_divided, terms_divided, divides_found}
 use Rattle.nona_forms.proofs.InBoxes.{both_true, sum_holds, times_holds, IsIn, in_range, AreIn, inner_holds, parts_at, in_parts, same_at, numbers_same}

@@ -12,7 +12,8 @@ use Rattle.nona_num.proofs.Products.{product_between}
 use Rattle.nona_forms.specs.declared.terms.Term.{Term}
 use Rattle.nona_forms.specs.Affine.{Affine, terms_at}
 use Rattle.nona_forms.specs.declared.shapes.InnerLoop.{InnerLoop}
-use Rattle.nona_forms.specs.Verdicts.{fixed_inner, bounds_of, all_fixed, range_in, sum_range, times_range, box, inner_box, invariant_terms, inner_terms, coefficient_of, same_terms}
+use Rattle.nona_forms.specs.Boxes.{sum_range, times_range, box}
+use Rattle.nona_forms.specs.Verdicts.{fixed_inner, bounds_of, all_fixed, range_in, inner_box, invariant_terms, inner_terms, coefficient_of, same_terms}
 use Rattle.nona_forms.proofs.Sums.{sum_times}
 
 pub both_true : (a b : Bool) → (a && b) ≡ true → (a ≡ true) × (b ≡ true)

@@ -127,7 +127,7 @@ named_cell c m v cell plain value e =
     plain_place c.array.at (length (cells_of m c.array.id)) cell v
     (ap (λ w. place_of w c.array.at (length (cells_of m c.array.id)) v) (sym plain) ∙ ap (λ o. then_use o (λ i. place_of c.wrap c.array.at (length (cells_of m c.array.id)) i)) (sym value) ∙ e)
 
-lies_fits : (v : ℤ) (n : ℕ) → n < 2 ^ 63 → pos 0 ≤ℤ v → v <ℤ pos n → IsI64 v
+pub lies_fits : (v : ℤ) (n : ℕ) → n < 2 ^ 63 → pos 0 ≤ℤ v → v <ℤ pos n → IsI64 v
 lies_fits v n few h g = omega (arith, ints)
 
 -- what stands of a place: the inner loops lie inside, and the numbers have 64 bits

@@ -1,7 +1,8 @@
 -- What stands of the accesses of a loop that the store has.
-use Rattle.std.proofs.Common.{◌≡◌, ℕ, ◌<◌, ◌≤◌, ◌+◌, IsTrue, Bool, true, false, ℤ, List, [], ◌∷◌, ◌++◌, length, map, refl, sym, ap, ◌∙◌, subst, arith, if◌then◌else◌}
+use Rattle.std.proofs.Common.{◌≡◌, ℕ, ◌<◌, ◌≤◌, ◌+◌, IsTrue, Bool, true, false, ℤ, List, [], ◌∷◌, ◌++◌, length, map, refl, sym, ap, ◌∙◌, subst, arith, if◌then◌else◌, ◌≤ℤ◌, ◌<ℤ◌, Some}
 use Rattle.std.proofs.lemmas.List.Elements.{All-from_recursion}
 use Rattle.std.specs.List.{AllByRecursion, Contains}
+use Rattle.std.specs.Prelude.{Ok}
 use Rattle.nona_tree.specs.declared.trees.Access.{Access}
 use Rattle.nona_tree.specs.declared.trees.Expr.{Expr, Number, Scalar, Cell', Len, Neg', Not', Binary', more_of-Expr, end_of-Expr}
 use Rattle.nona_tree.specs.declared.trees.Expr.TheBlock.{more_of-Access, end_of-Access}
@@ -12,11 +13,14 @@ use Rattle.nona_tree.specs.Numbers.{IsI64Expr, IsI64Stmt, IsI64Row, AreI64Stmts}
 use Rattle.nona_tree.specs.Scope.{IsScoped, IsRowScoped, AreScoped, is_let, depth_after}
 use Rattle.nona_tree.proofs.Equations.{scoped-For}
 use Rattle.nona_forms.specs.References.{Inner, Reference, expr_references, written_references, inside, references, references_row, references_all}
-use Rattle.nona_tree.specs.Memory.{Memory}
-use Rattle.nona_forms.specs.References.{names_of}
-use Rattle.nona_forms.specs.Verdicts.{spot_of, shape_of, is_apart}
+use Rattle.nona_tree.specs.Memory.{Memory, scalar_at, cells_of}
+use Rattle.nona_tree.specs.Value.{value_of}
+use Rattle.nona_forms.specs.Affine.{Affine, form_at, form_of}
+use Rattle.nona_forms.proofs.Exact.{exact_value, few_cells}
+use Rattle.nona_forms.specs.References.{IsPossibleAt, given_in, names_of}
+use Rattle.nona_forms.specs.Verdicts.{names_inside, spot_of, shape_of, is_apart}
 use Rattle.nona_forms.specs.Separate.{IsLoopEntry, Lies, AreSeparate}
-use Rattle.nona_forms.proofs.Separate.{IsBehind, IsSoundReference, apart_separates}
+use Rattle.nona_forms.proofs.Separate.{IsBehind, IsSoundReference, stood, lies_fits, apart_separates}
 
 pub all_of_two : {X : Type 0} (P : X → Type 0) (xs ys : List X) → AllByRecursion P xs → AllByRecursion P ys → AllByRecursion P (xs ++ ys)
 all_of_two P [] ys h g = g
@@ -98,3 +102,13 @@ loop_apart l entry low last x y h in_x in_y apart lies_x lies_y i j cell i1 i2 j
     let sound = loop_sound l (length entry.scalars) (length entry.arrays) h.scoped h.written in
     let numbers = subst (λ P. P) (i64-For l) h.written in
     apart_separates l entry low last x y h numbers.0 numbers.1 (contained (IsSoundReference l.index.id) (references_all l.body) x sound in_x) (contained (IsSoundReference l.index.id) (references_all l.body) y sound in_y) apart i j cell i1 i2 j1 j2 others (lies_x i i1 i2) (lies_y j j1 j2) touches_x touches_y
+
+-- the value of a plain access's index is the exact one
+pub loop_exact : (l : Loop) (entry : Memory) (low last : ℤ) (x : Reference) → IsLoopEntry l entry low last → Contains (references_all l.body) x → Lies l entry low last x
+    → (i : ℤ) (m : Memory) (f : Affine) → low ≤ℤ i → i <ℤ last → IsPossibleAt l entry x i m → form_of x.access.index (names_inside (names_of l) x.inner) ≡ Some f
+    → value_of x.access.index m ≡ Ok (form_at (scalar_at m) f)
+loop_exact l entry low last x h in_x lies i m f from to possible form =
+    let sound = contained (IsSoundReference l.index.id) (references_all l.body) x (loop_sound l (length entry.scalars) (length entry.arrays) h.scoped h.written) in_x in
+    let within = lies i from to m f possible form in
+    let such = (stood entry l.index.id x.inner (given_in l entry i) (names_of l) m sound.inner possible).0 in
+    exact_value x.access.index (names_inside (names_of l) x.inner) m f form sound.index_fits such.numbers (lies_fits (form_at (scalar_at m) f) (length (cells_of entry x.access.array.id)) (few_cells entry x.access.array.id h.numbers) within.0 within.1)

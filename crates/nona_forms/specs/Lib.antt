@@ -1,5 +1,6 @@
 pub mod Affine
 pub mod References
+pub mod Boxes
 pub mod Verdicts
 pub mod Separate
 pub mod Calm

@@ -16,6 +16,7 @@ use Rattle.nona_forms.specs.declared.shapes.Spot.{Spot}
 use Rattle.nona_forms.specs.declared.shapes.Verdict.{Verdict}
 use Rattle.nona_forms.specs.declared.shapes.Verdict.TheVariants.{Apart, Maybe}
 use Rattle.nona_forms.specs.References.{Inner, Reference, names_of}
+use Rattle.nona_forms.specs.Boxes.{sum_range, times_range, box}
 
 -- constant bounds, where both forms exist without terms
 abbrev pub fixed_of : Option Affine → Option Affine → Option (ℤ × ℤ)
@@ -81,23 +82,7 @@ abbrev pub range_in : Option (ℤ × ℤ) → Range
 range_in None = record { low = pos 0; high = pos 0 }
 range_in (Some b) = record { low = b.0; high = b.1 -ℤ pos 1 }
 
--- the range of sums, and of multiples
-abbrev pub sum_range : Range → Range → Range
-sum_range r s = record { low = r.low +ℤ s.low; high = r.high +ℤ s.high }
-
-abbrev pub times_range : ℤ → Range → Range
-times_range c r = record { low = int_min (r.low *ℤ c) (r.high *ℤ c); high = int_max (r.low *ℤ c) (r.high *ℤ c) }
-
--- the box range of terms, where the scalars have these ranges
-abbrev pub box : (ℕ → Range) → List Term → Range
-box ranges [] = record { low = pos 0; high = pos 0 }
-box ranges (t ∷ ts) = sum_range (times_range t.coefficient (ranges t.id)) (box ranges ts)
-
--- a range and that of one more term, unless it is no inner index's; none where the bounds aren't constant
-abbrev pub added_term : ℕ → List InnerLoop → Term → Range → Option Range
-added_term index inner t r =
-    if nat_lt index t.id then (if is_some (bounds_of inner t.id) then Some (sum_range r (times_range t.coefficient (range_in (bounds_of inner t.id)))) else None) else Some r
-
+-- the box range of the inner indices' terms
 abbrev pub inner_box : List InnerLoop → List Term → Range
 inner_box inner ts = box (λ id. range_in (bounds_of inner id)) ts
 

@@ -14,8 +14,8 @@ ghost use Rattle.nona_tree.specs.Numbers.{IsI64, IsI64Expr, AreI64};
 ghost use Rattle.nona_tree.specs.Scope.{IsSteady};
 ghost use Rattle.nona_tree.specs.Value.{value_of};
 ghost use Rattle.nona_forms.specs.Affine.{Affine, form_of, form_at};
-ghost use Rattle.nona_forms.specs.References.{Reference, references_all, names_of};
-ghost use Rattle.nona_forms.specs.Verdicts.{spot_of, shape_of, is_apart, verdict_of, gcd_of, divides, is_distance, has_multiple};
+ghost use Rattle.nona_forms.specs.References.{Reference, IsPossibleAt, references_all, names_of};
+ghost use Rattle.nona_forms.specs.Verdicts.{names_inside, spot_of, shape_of, is_apart, verdict_of, gcd_of, divides, is_distance, has_multiple};
 ghost use Rattle.nona_forms.specs.Separate.{IsLoopEntry, Lies, AreSeparate};
 ghost use Rattle.nona_forms.specs.Rules.{verdict_by_rules};
 ghost use Rattle.nona_forms.specs.Touched.{MayBegin, IsOfAccess};
@@ -28,9 +28,13 @@ pub fn form_is_value()
         → value_of e m ≡ Ok (form_at (scalar_at m) f) }
 {}
 
-/// Says that two accesses of a loop that are told apart are separate, where the exact values of both lie in the arrays.
+/// Says that two accesses of a loop that are told apart are separate, where the exact values of both lie in their arrays for
+/// the entry; and that the value of such an access's index, which wraps, is then the exact one.
 pub fn apart_is_separate()
-    ensures { (l : Loop) (entry : Memory) (low last : ℤ) (x y : Reference) → IsLoopEntry l entry low last
+    ensures exact { (l : Loop) (entry : Memory) (low last : ℤ) (x : Reference) → IsLoopEntry l entry low last → Contains (references_all l.body) x
+        → Lies l entry low last x → (i : ℤ) (m : Memory) (f : Affine) → low ≤ℤ i → i <ℤ last → IsPossibleAt l entry x i m
+        → form_of x.access.index (names_inside (names_of l) x.inner) ≡ Some f → value_of x.access.index m ≡ Ok (form_at (scalar_at m) f) }
+    ensures separate { (l : Loop) (entry : Memory) (low last : ℤ) (x y : Reference) → IsLoopEntry l entry low last
         → Contains (references_all l.body) x → Contains (references_all l.body) y
         → IsTrue (is_apart (shape_of l) (spot_of (names_of l) x) (spot_of (names_of l) y))
         → Lies l entry low last x → Lies l entry low last y → AreSeparate l entry low last x y }
