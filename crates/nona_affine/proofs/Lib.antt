@@ -5,3 +5,6 @@ pub mod FormLoops
 pub mod FormEquations
 pub mod SmallRanges
 pub mod PairLoops
+pub mod BoxLoops
+pub mod AssignedEquations
+pub mod ReferenceEquations

@@ -1,6 +1,7 @@
 -- The lists behind the names of a loop and behind its accesses.
 use Rattle.std.specs.Prelude.{ℕ, List, [], ◌∷◌, ◌++◌, Some, None}
 use Rattle.std.specs.declared.option.Option.{Option}
+use Rattle.nona_tree.specs.declared.trees.Loop.{Loop}
 use Rattle.nona_forms.specs.Affine.{form_of}
 use Rattle.nona_forms.specs.declared.shapes.InnerLoop.{InnerLoop}
 use Rattle.nona_forms.specs.declared.shapes.Spot.{Spot}
@@ -11,6 +12,10 @@ use Rattle.nona_forms.specs.Verdicts.{inner_forms, names_inside}
 abbrev pub ids_in : Option (List ℕ) → List ℕ
 ids_in None = []
 ids_in (Some ids) = ids
+
+-- a loop as an inner one
+abbrev pub inner_of : Loop → Inner
+inner_of l = record { id = l.index.id; low = l.low; high = l.high }
 
 -- an inner loop where these names may occur in its bounds
 abbrev pub loop_in : List ℕ → Inner → InnerLoop

@@ -2,13 +2,19 @@
 #![tactic(auto)]
 
 mod arithmetic;
+mod around;
+mod assigned;
 mod boxes;
 mod combining;
 mod names;
 mod of_expr;
+mod of_loop;
 mod pairs;
+mod ranges;
 mod terms;
 
 pub use names::Names;
 pub use of_expr::form;
+pub use of_loop::{loop_names, spots};
 pub use pairs::apart;
+pub use ranges::range;

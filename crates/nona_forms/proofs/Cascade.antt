@@ -1,19 +1,18 @@
 -- The reasons of the dependence test are the table of its rules.
-use Rattle.std.proofs.Common.{◌≡◌, ℕ, ◌&&◌, ◌||◌, Bool, true, false, not, ℤ, pos, negsuc, ◌-ℤ◌, List, [], ◌∷◌, refl, sym, ap, ◌∙◌, arith, if◌then◌else◌, Some, None}
+use Rattle.std.proofs.Common.{◌≡◌, ℕ, ◌&&◌, ◌||◌, Bool, true, false, not, ℤ, pos, ◌-ℤ◌, List, [], ◌∷◌, refl, ap, ◌∙◌, arith, if◌then◌else◌, Some, None}
 use Rattle.std.proofs.lemmas.Int.{ints}
 use Rattle.std.specs.List.{list_all}
 use Rattle.std.specs.Ordering.{int_eq}
 use Rattle.std.specs.Prelude.{unsigned_abs}
 use Rattle.std.specs.declared.option.Option.{Option}
 use Rattle.nona_tree.specs.Value.{is_zero}
-use Rattle.nona_num.specs.declared.range.Range.{Range}
 use Rattle.nona_forms.specs.declared.shapes.LoopShape.{LoopShape}
 use Rattle.nona_forms.specs.declared.shapes.Spot.{Spot}
 use Rattle.nona_forms.specs.declared.shapes.Verdict.{Verdict}
 use Rattle.nona_forms.specs.declared.shapes.Verdict.TheVariants.{Apart, Maybe}
 use Rattle.nona_forms.specs.declared.terms.Term.{Term}
 use Rattle.nona_forms.specs.Affine.{Affine}
-use Rattle.nona_forms.specs.Verdicts.{invariant_terms, inner_terms, coefficient_of, same_terms, gcd_of, gcd_terms, divides, near_of, far_of, inner_part, some_empty, is_undivided, is_too_near, is_too_far, are_apart, if_form, is_apart, verdict_of}
+use Rattle.nona_forms.specs.Verdicts.{invariant_terms, inner_terms, coefficient_of, same_terms, gcd_of, gcd_terms, divides, near_of, far_of, inner_part, some_empty, is_undivided, is_too_near, is_too_far, are_apart, if_form, verdict_of}
 use Rattle.nona_forms.specs.Rules.{is_nothing, has_no_index, rules_of, first_answer, answer_on, verdict_by_rules}
 use Rattle.nona_forms.proofs.InBoxes.{both_true}
 

@@ -1,13 +1,13 @@
 -- Forms that are told apart have different values in different iterations.
-use Rattle.std.proofs.Common.{◌≡◌, ◌≢◌, ℕ, zero, suc, ◌≤◌, ◌<◌, ◌+◌, ◌*◌, ◌/◌, ◌%◌, ◌==◌, ◌&&◌, ◌||◌, Bool, true, false, not, ℤ, pos, negsuc, ◌+ℤ◌, ◌-ℤ◌, ◌*ℤ◌, neg_ℤ, ◌≤ℤ◌, ◌<ℤ◌, List, [], ◌∷◌, refl, sym, ap, ◌∙◌, subst, arith, if◌then◌else◌, nat_lt, Some, None, is_some}
-use Rattle.std.proofs.Math.IntN.{*ℤ_comm, zero-*ℤ, +ℤ_idl, +ℤ_idr}
-use Rattle.std.proofs.lemmas.Int.{ints, clamps, unsigned_abs-mul}
+use Rattle.std.proofs.Common.{◌≡◌, ◌≢◌, ℕ, zero, suc, ◌≤◌, ◌<◌, ◌*◌, ◌&&◌, ◌||◌, Bool, true, false, not, ℤ, pos, negsuc, ◌+ℤ◌, ◌-ℤ◌, ◌*ℤ◌, neg_ℤ, ◌≤ℤ◌, ◌<ℤ◌, List, [], ◌∷◌, refl, sym, ap, ◌∙◌, subst, arith, if◌then◌else◌, nat_lt, Some, None, is_some}
+use Rattle.std.proofs.Math.IntN.{*ℤ_comm}
+use Rattle.std.proofs.lemmas.Int.{ints, unsigned_abs-mul}
 use Rattle.std.proofs.lemmas.Grind.{div_ceil_times}
 use Rattle.std.proofs.lemmas.Nat.Gcd.{dvd_trans}
-use Rattle.std.specs.Int.{◌∣◌, int_gap, int_min, int_max, div_ceil}
-use Rattle.std.specs.List.{AllByRecursion, list_all, list_any}
+use Rattle.std.specs.Int.{◌∣◌, int_gap, div_ceil}
+use Rattle.std.specs.List.{AllByRecursion, list_any}
 use Rattle.std.specs.Ordering.{int_eq}
-use Rattle.std.specs.Prelude.{unsigned_abs, int_le, int_lt, max, min}
+use Rattle.std.specs.Prelude.{unsigned_abs, int_le, int_lt, max}
 use Rattle.std.specs.declared.option.Option.{Option}
 use Rattle.nona_num.specs.declared.range.Range.{Range}
 use Rattle.nona_num.specs.Ranges.{Holds}
@@ -22,11 +22,11 @@ use Rattle.nona_forms.specs.Affine.{Affine, terms_at, form_at}
 use Rattle.nona_forms.specs.declared.shapes.InnerLoop.{InnerLoop}
 use Rattle.nona_forms.specs.declared.shapes.Spot.{Spot}
 use Rattle.nona_forms.specs.declared.shapes.LoopShape.{LoopShape}
-use Rattle.nona_forms.specs.Boxes.{sum_range, times_range, box}
-use Rattle.nona_forms.specs.Verdicts.{is_empty, fixed_inner, bounds_of, all_fixed, range_in, inner_box, invariant_terms, inner_terms, coefficient_of, same_terms, gcd_of, gcd_terms, divides, is_distance, has_multiple, has_distance, is_outside, some_empty, is_undivided, inner_part, near_of, far_of, is_too_near, is_too_far, are_apart, if_form, is_apart}
-use Rattle.nona_forms.proofs.Sums.{sum_times, times_sum, minus_is, less_is}
+use Rattle.nona_forms.specs.Boxes.{sum_range, times_range}
+use Rattle.nona_forms.specs.Verdicts.{is_empty, fixed_inner, all_fixed, range_in, inner_box, invariant_terms, inner_terms, coefficient_of, same_terms, gcd_of, gcd_terms, divides, is_distance, has_multiple, has_distance, is_outside, some_empty, is_undivided, near_of, far_of, is_too_near, is_too_far, are_apart}
+use Rattle.nona_forms.proofs.Sums.{times_sum, minus_is, less_is}
 use Rattle.nona_forms.proofs.Division.{Divides, divides_sum, divides_times, divides_minus, divides_from, gcd_divides, all_divided, terms_divided, divides_found}
-use Rattle.nona_forms.proofs.InBoxes.{both_true, sum_holds, times_holds, IsIn, in_range, AreIn, inner_holds, parts_at, in_parts, same_at, numbers_same}
+use Rattle.nona_forms.proofs.InBoxes.{both_true, sum_holds, times_holds, IsIn, in_range, AreIn, inner_holds, in_parts, same_at, numbers_same}
 
 -- the values of the scalars at two accesses: in different iterations, each index within its bounds where they are
 -- constant, and the invariants the same

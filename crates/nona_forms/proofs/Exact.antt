@@ -1,22 +1,19 @@
 -- Where the exact value of a form is a number of 64 bits, it is the value.
-use Rattle.std.proofs.Common.{◌≡◌, ℕ, ◌<◌, ◌≤◌, ◌^◌, ◌&&◌, Bool, true, false, ℤ, pos, negsuc, ◌+ℤ◌, ◌≤ℤ◌, ◌<ℤ◌, List, [], ◌∷◌, length, refl, sym, ap, ◌∙◌, subst, arith, if◌then◌else◌, Some, None, ⊎_elim}
-use Rattle.std.proofs.Math.IntN.{+ℤ_idr}
+use Rattle.std.proofs.Common.{◌≡◌, ℕ, ◌<◌, ◌≤◌, ◌^◌, ◌&&◌, true, ℤ, pos, negsuc, List, [], length, refl, sym, ap, ◌∙◌, subst, arith, Some, ⊎_elim}
 use Rattle.std.proofs.lemmas.Bool.{cases_lt}
 use Rattle.std.proofs.lemmas.Int.{ints, int_wrap_fits}
 use Rattle.std.proofs.lemmas.List.{get_or_past}
 use Rattle.std.specs.Int.{w64}
-use Rattle.std.specs.Prelude.{Result, Ok, Err, IfOk, All, int_le, nat_le, slice_index_or}
+use Rattle.std.specs.Prelude.{Ok, Err, IfOk, int_le, nat_le}
 use Rattle.std.specs.List.{list_all}
-use Rattle.std.specs.declared.option.Option.{Option}
 use Rattle.nona_num.specs.Numbers.{wrapped}
 use Rattle.nona_tree.specs.declared.trees.Expr.{Expr}
 use Rattle.nona_tree.specs.Memory.{Memory, scalar_at, cells_of}
-use Rattle.nona_tree.specs.Numbers.{IsI64, AreI64, AreCells, IsI64Expr}
+use Rattle.nona_tree.specs.Numbers.{IsI64, AreI64, IsI64Expr}
 use Rattle.nona_tree.specs.Value.{Answer, value_of}
 use Rattle.nona_tree.proofs.I64.{value_fits}
-use Rattle.nona_forms.specs.declared.terms.Term.{Term}
-use Rattle.nona_forms.specs.Affine.{Affine, terms_at, form_at, no_terms, is_bounded, is_constant, is_coefficient, form_of}
-use Rattle.nona_forms.proofs.FormValues.{IsWrapped, Means, value_means, one_value, no_value, constant_alone}
+use Rattle.nona_forms.specs.Affine.{Affine, form_at, no_terms, is_constant, is_coefficient, form_of}
+use Rattle.nona_forms.proofs.FormValues.{Means, value_means, one_value, no_value, constant_alone}
 use Rattle.nona_forms.proofs.Named.{IsForm, form_is}
 use Rattle.nona_forms.proofs.InBoxes.{both_true}
 

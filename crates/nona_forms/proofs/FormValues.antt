@@ -1,9 +1,9 @@
 -- Where an expression has a form, its value is the form's exact value, wrapped.
-use Rattle.std.proofs.Common.{◌≡◌, ℕ, Bool, true, false, ℤ, pos, negsuc, ◌+ℤ◌, ◌*ℤ◌, ◌-ℤ◌, neg_ℤ, List, [], ◌∷◌, refl, sym, ap, ◌∙◌, arith, if◌then◌else◌, Some, None}
-use Rattle.std.proofs.Math.IntN.{*ℤ_comm, +ℤ_idl, +ℤ_idr}
-use Rattle.std.proofs.lemmas.Int.{ints, SFits-int_wrap, int_wrap_fits, int_wrap-add_left, int_wrap-add_right, int_wrap-sub_right, int_wrap-mul_left, int_wrap-mul_right}
+use Rattle.std.proofs.Common.{◌≡◌, ℕ, Bool, true, false, ℤ, pos, negsuc, ◌+ℤ◌, ◌*ℤ◌, ◌-ℤ◌, List, [], ◌∷◌, refl, sym, ap, ◌∙◌, arith, if◌then◌else◌, Some, None}
+use Rattle.std.proofs.Math.IntN.{*ℤ_comm, +ℤ_idr}
+use Rattle.std.proofs.lemmas.Int.{ints, SFits-int_wrap, int_wrap_fits, int_wrap-add_left, int_wrap-add_right, int_wrap-mul_left, int_wrap-mul_right}
 use Rattle.std.specs.Int.{w64}
-use Rattle.std.specs.Prelude.{Result, Ok, Err}
+use Rattle.std.specs.Prelude.{Ok, Err}
 use Rattle.std.specs.declared.option.Option.{Option}
 use Rattle.nona_num.specs.Numbers.{wrapped, add_of, sub_of, mul_of, neg_of}
 use Rattle.nona_tree.specs.declared.outcomes.Trap.{Trap}
@@ -12,10 +12,9 @@ use Rattle.nona_tree.specs.declared.trees.Op.TheVariants as op
 use Rattle.nona_tree.specs.declared.trees.Expr.{Expr, Number, Scalar, Cell', Len, Neg', Not', Binary', more_of-Expr, end_of-Expr}
 use Rattle.nona_tree.specs.declared.trees.Expr.TheBlock.{more_of-Access, end_of-Access}
 use Rattle.nona_tree.specs.Memory.{Memory, scalar_at}
-use Rattle.nona_tree.specs.Numbers.{IsI64, IsI64Expr}
 use Rattle.nona_tree.specs.Value.{Answer, then_use, apply, value_of}
 use Rattle.nona_forms.specs.declared.terms.Term.{Term}
-use Rattle.nona_forms.specs.Affine.{Affine, terms_at, form_at, no_terms, if_bounded, is_bounded, on_form, form_by, form_of, among, sum_form, times_form, constant_form, scalar_form}
+use Rattle.nona_forms.specs.Affine.{Affine, form_at, no_terms, if_bounded, is_bounded, on_form, form_by, form_of, among, sum_form, times_form, constant_form, scalar_form}
 use Rattle.nona_forms.proofs.Sums.{form_sum, form_times, minus_is, less_is}
 
 -- a value stands for a form in a memory: it is the form's exact value, wrapped

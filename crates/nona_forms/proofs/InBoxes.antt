@@ -1,16 +1,15 @@
 -- What terms add up to lies in their box range; terms are split by the region's index.
-use Rattle.std.proofs.Common.{◌≡◌, ℕ, ◌+◌, ◌*◌, ◌==◌, ◌&&◌, Bool, true, false, ℤ, pos, negsuc, ◌+ℤ◌, ◌-ℤ◌, ◌*ℤ◌, neg_ℤ, ◌≤ℤ◌, ◌<ℤ◌, List, [], ◌∷◌, refl, sym, ap, ◌∙◌, subst, arith, if◌then◌else◌, nat_lt, Some, None, is_some, filter}
-use Rattle.std.proofs.Math.IntN.{*ℤ_comm, zero-*ℤ, +ℤ_idl, +ℤ_idr}
-use Rattle.std.proofs.lemmas.Int.{ints, clamps}
-use Rattle.std.specs.Int.{int_min, int_max}
-use Rattle.std.specs.List.{AllByRecursion, list_all}
+use Rattle.std.proofs.Common.{◌≡◌, ℕ, ◌==◌, ◌&&◌, Bool, true, false, ℤ, ◌+ℤ◌, ◌*ℤ◌, ◌≤ℤ◌, ◌<ℤ◌, List, [], ◌∷◌, refl, sym, ap, ◌∙◌, subst, arith, if◌then◌else◌, nat_lt, Some, None, is_some}
+use Rattle.std.proofs.Math.IntN.{*ℤ_comm}
+use Rattle.std.proofs.lemmas.Int.{ints}
+use Rattle.std.specs.List.{AllByRecursion}
 use Rattle.std.specs.Ordering.{int_eq}
 use Rattle.std.specs.declared.option.Option.{Option}
 use Rattle.nona_num.specs.declared.range.Range.{Range}
 use Rattle.nona_num.specs.Ranges.{Holds}
 use Rattle.nona_num.proofs.Products.{product_between}
 use Rattle.nona_forms.specs.declared.terms.Term.{Term}
-use Rattle.nona_forms.specs.Affine.{Affine, terms_at}
+use Rattle.nona_forms.specs.Affine.{terms_at}
 use Rattle.nona_forms.specs.declared.shapes.InnerLoop.{InnerLoop}
 use Rattle.nona_forms.specs.Boxes.{sum_range, times_range, box}
 use Rattle.nona_forms.specs.Verdicts.{fixed_inner, bounds_of, all_fixed, range_in, inner_box, invariant_terms, inner_terms, coefficient_of, same_terms}

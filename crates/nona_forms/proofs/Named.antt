@@ -1,5 +1,5 @@
 -- A form is within bounds, and has terms of the allowed scalars alone.
-use Rattle.std.proofs.Common.{◌≡◌, ℕ, ◌==◌, Bool, true, false, ℤ, negsuc, ◌+ℤ◌, ◌*ℤ◌, List, [], ◌∷◌, refl, sym, ap, ◌∙◌, subst, arith, if◌then◌else◌, nat_lt, Some, None}
+use Rattle.std.proofs.Common.{◌≡◌, ℕ, Bool, true, false, ℤ, negsuc, ◌+ℤ◌, ◌*ℤ◌, List, [], ◌∷◌, refl, ap, if◌then◌else◌, nat_lt, Some, None}
 use Rattle.std.specs.List.{AllByRecursion}
 use Rattle.std.specs.declared.option.Option.{Option}
 use Rattle.nona_tree.specs.declared.trees.Op.{Op}
@@ -89,3 +89,14 @@ form_is (Neg' p (more_of-Expr e end_of-Expr)) names =
 form_is (Not' p (more_of-Expr e end_of-Expr)) names = tt
 form_is (Binary' o at p (more_of-Expr left end_of-Expr) q (more_of-Expr right end_of-Expr)) names =
     on_form_is names (form_of left names) _ (form_is left names) (λ f h. on_form_is names (form_of right names) _ (form_is right names) (λ g k. by_form names o f g h k))
+
+-- a form depends on which scalars are among the names alone
+pub form_by_members : (e : Expr) (names others : List ℕ) → ((id : ℕ) → among id names ≡ among id others) → form_of e names ≡ form_of e others
+form_by_members (Number v) names others h = refl
+form_by_members (Scalar x) names others h = ap (λ b. if b then Some (scalar_form x.id) else None) (h x.id)
+form_by_members (Cell' p (more_of-Access array wrap index end_of-Access)) names others h = refl
+form_by_members (Len a) names others h = refl
+form_by_members (Neg' p (more_of-Expr e end_of-Expr)) names others h = ap (λ o. on_form o (λ f. if_bounded (times_form (negsuc 0) f))) (form_by_members e names others h)
+form_by_members (Not' p (more_of-Expr e end_of-Expr)) names others h = refl
+form_by_members (Binary' o at p (more_of-Expr left end_of-Expr) q (more_of-Expr right end_of-Expr)) names others h =
+    λ i. on_form (form_by_members left names others h i) (λ f. on_form (form_by_members right names others h i) (λ g. form_by o f g))

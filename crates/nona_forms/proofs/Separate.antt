@@ -1,26 +1,23 @@
 -- Accesses that are told apart are separate.
-use Rattle.std.proofs.Common.{◌≡◌, ◌≢◌, ℕ, ◌<◌, ◌≤◌, ◌^◌, ◌==◌, ◌&&◌, Bool, true, false, not, ℤ, pos, negsuc, ◌+ℤ◌, ◌≤ℤ◌, ◌<ℤ◌, List, [], ◌∷◌, length, map, filter, refl, sym, ap, ◌∙◌, subst, arith, if◌then◌else◌, nat_lt, Some, None}
+use Rattle.std.proofs.Common.{◌≡◌, ◌≢◌, ℕ, ◌<◌, ◌^◌, ◌==◌, ◌&&◌, Bool, true, false, not, ℤ, pos, negsuc, ◌≤ℤ◌, ◌<ℤ◌, List, [], ◌∷◌, length, map, refl, sym, ap, ◌∙◌, subst, arith, if◌then◌else◌, nat_lt, Some, None}
 use Rattle.std.proofs.lemmas.Int.{ints}
-use Rattle.std.specs.Prelude.{Result, Ok, Err}
+use Rattle.std.specs.Prelude.{Ok}
 use Rattle.std.specs.List.{AllByRecursion}
 use Rattle.std.specs.declared.option.Option.{Option}
-use Rattle.nona_tree.specs.declared.outcomes.Trap.{Trap}
 use Rattle.nona_tree.specs.declared.outcomes.TrapKind.TheVariants.{Index}
 use Rattle.nona_tree.specs.declared.trees.Access.{Access}
 use Rattle.nona_tree.specs.declared.trees.Expr.{Expr}
 use Rattle.nona_tree.specs.declared.trees.Loop.{Loop}
 use Rattle.nona_tree.specs.Memory.{Memory, scalar_at, cells_of}
 use Rattle.nona_tree.specs.Numbers.{IsI64, AreI64, IsI64Expr}
-use Rattle.nona_tree.specs.Value.{Answer, trap, then_use, place_of, value_of, cell_of}
+use Rattle.nona_tree.specs.Value.{trap, then_use, place_of, value_of, cell_of}
 use Rattle.nona_forms.specs.declared.terms.Term.{Term}
 use Rattle.nona_forms.specs.Affine.{Affine, form_at, no_terms, form_of, among}
 use Rattle.nona_forms.specs.References.{Inner, Reference, Fixed, HasValue, IsStoreWith, as_in, IsPossible, IsPossibleAt, given_in, Touches, names_of, invariants_of}
-use Rattle.nona_forms.specs.declared.shapes.InnerLoop.{InnerLoop}
 use Rattle.nona_forms.specs.declared.shapes.Spot.{Spot}
 use Rattle.nona_forms.specs.declared.shapes.LoopShape.{LoopShape}
-use Rattle.nona_forms.specs.Verdicts.{fixed_of, fixed_inner, inner_forms, names_inside, spot_of, shape_of, invariant_terms, are_apart, if_form, is_apart}
+use Rattle.nona_forms.specs.Verdicts.{fixed_of, inner_forms, names_inside, spot_of, shape_of, invariant_terms, are_apart, if_form, is_apart}
 use Rattle.nona_forms.specs.Separate.{IsLoopEntry, LiesAt}
-use Rattle.nona_forms.proofs.FormValues.{one_value, no_value}
 use Rattle.nona_forms.proofs.Named.{AreAmong, IsForm, form_is}
 use Rattle.nona_forms.proofs.InBoxes.{both_true, IsIn, AreIn, ids_same}
 use Rattle.nona_forms.proofs.Exact.{exact_value, constant_value, few_cells}
@@ -62,9 +59,10 @@ pub stood : (entry : Memory) (index : ℕ) (inner : List Inner) (fixed : List Fi
 stood entry index [] fixed names m h s = (s, tt)
 stood entry index (l ∷ inner) fixed names m h (k, low, high, j, such, begins, ends, from, to, rest) =
     let deep = stood entry index inner (record { id = l.id; value = j } ∷ fixed) (l.id ∷ names) m h.1 rest in
-    let here : scalar_at m l.id ≡ j = deep.0.values.0 in
-    (record { numbers = deep.0.numbers; sizes = deep.0.sizes; values = deep.0.values.1 },
-     (subst (IsIn (fixed_of (form_of l.low names) (form_of l.high names))) (sym here) (between l.low l.high names k low high j h.0.low h.0.high such.numbers begins ends from to), deep.1))
+    let here : scalar_at m l.id ≡ j = deep.0.values.0 in (
+      record { numbers = deep.0.numbers; sizes = deep.0.sizes; values = deep.0.values.1 },
+      (subst (IsIn (fixed_of (form_of l.low names) (form_of l.high names))) (sym here) (between l.low l.high names k low high j h.0.low h.0.high such.numbers begins ends from to), deep.1),
+    )
 
 -- a scalar before the index that may occur is an invariant
 passed : (b rest : Bool) → (b ≡ true → ⊥) → (if b then true else rest) ≡ true → rest ≡ true

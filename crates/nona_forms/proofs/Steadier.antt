@@ -1,5 +1,5 @@
 -- A body that assigns none of these scalars is steady in them besides.
-use Rattle.std.proofs.Common.{◌≡◌, ◌≢◌, ℕ, zero, suc, ◌<◌, ◌≤◌, ◌+◌, ◌==◌, Bool, true, false, List, [], ◌∷◌, ◌++◌, refl, sym, ap, ◌∙◌, subst, arith, if◌then◌else◌}
+use Rattle.std.proofs.Common.{◌≡◌, ◌≢◌, ℕ, zero, suc, ◌<◌, ◌==◌, Bool, true, false, List, [], ◌∷◌, ◌++◌, refl, sym, ap, ◌∙◌, subst, arith, if◌then◌else◌}
 use Rattle.std.proofs.lemmas.List.Elements.{All-from_recursion, All-append}
 use Rattle.std.specs.List.{AllByRecursion}
 use Rattle.std.specs.Prelude.{All}
@@ -99,4 +99,3 @@ missing_step n xs id false free rest e = missing_at n xs id (id == n) refl free 
 pub missing : (n : ℕ) (xs : List ℕ) (id : ℕ) → among id (missing_below n xs) ≡ true → (id < n) × (among id xs ≡ false)
 missing zero xs id e = cc
 missing (suc n) xs id e = missing_step n xs id (among n xs) refl (λ h. missing n xs id h) e
-

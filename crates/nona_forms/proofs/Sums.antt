@@ -1,14 +1,12 @@
 -- What the terms of a sum and of a multiple add up to.
-use Rattle.std.proofs.Common.{◌≡◌, ℕ, ◌+◌, ◌*◌, Bool, true, false, ℤ, pos, negsuc, ◌+ℤ◌, ◌*ℤ◌, ◌-ℤ◌, neg_ℤ, List, [], ◌∷◌, refl, sym, ap, ◌∙◌, arith, if◌then◌else◌, nat_lt, ⊎_elim}
-use Rattle.std.proofs.Math.IntN.{+ℤ_assoc, +ℤ_comm, *ℤ_comm, +ℤ_idl, +ℤ_idr, zero-*ℤ, *ℤ-zero}
+use Rattle.std.proofs.Common.{◌≡◌, ℕ, ◌*◌, Bool, true, false, ℤ, pos, negsuc, ◌+ℤ◌, ◌*ℤ◌, ◌-ℤ◌, neg_ℤ, List, [], ◌∷◌, refl, sym, ap, ◌∙◌, arith, if◌then◌else◌, nat_lt}
+use Rattle.std.proofs.Math.IntN.{+ℤ_assoc, *ℤ_comm, +ℤ_idl, zero-*ℤ, *ℤ-zero}
 use Rattle.std.proofs.lemmas.Int.{ints}
-use Rattle.std.proofs.lemmas.Bool.{cases_lt}
-use borrow.Author.Differences.{up, down, same_in, same_out, sum_is_lem, product_is}
-use Rattle.std.specs.Ordering.{int_eq}
+use borrow.Author.Differences.{up, down, sum_is_lem}
 use Rattle.nona_num.proofs.Products.{product_assoc}
 use Rattle.nona_tree.specs.Value.{is_zero}
 use Rattle.nona_forms.specs.declared.terms.Term.{Term}
-use Rattle.nona_forms.specs.Affine.{Affine, terms_at, form_at, with_term, merge_term, sum_terms, times_terms, sum_form, times_form, constant_form, scalar_form}
+use Rattle.nona_forms.specs.Affine.{Affine, terms_at, form_at, with_term, merge_term, sum_terms, times_terms, sum_form, times_form}
 
 -- products of sums: each number is a difference of two naturals
 pub sum_times : (a b c : ℤ) → (a +ℤ b) *ℤ c ≡ (a *ℤ c) +ℤ (b *ℤ c)

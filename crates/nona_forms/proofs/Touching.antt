@@ -1,12 +1,12 @@
 -- Each deed of an iteration on a cell is of an access that touches it.
-use Rattle.std.proofs.Common.{◌≡◌, ◌≢◌, ℕ, zero, suc, ◌<◌, ◌≤◌, ◌+◌, Bool, true, false, ℤ, pos, negsuc, ◌+ℤ◌, ◌≤ℤ◌, ◌<ℤ◌, List, [], ◌∷◌, ◌++◌, length, map, take, refl, sym, ap, ◌∙◌, subst, arith, if◌then◌else◌, length-append}
+use Rattle.std.proofs.Common.{◌≡◌, ℕ, zero, suc, ◌<◌, ◌≤◌, ◌+◌, Bool, true, false, ℤ, pos, negsuc, ◌+ℤ◌, ◌≤ℤ◌, ◌<ℤ◌, List, [], ◌∷◌, ◌++◌, length, map, refl, sym, ap, ◌∙◌, subst, arith, if◌then◌else◌, length-append}
 use Rattle.std.proofs.Math.ListN.{get_or-map}
 use Rattle.std.proofs.lemmas.Int.{ints}
 use Rattle.std.proofs.lemmas.List.{get_or-take, get_or_append_left, get_or-append-add}
 use Rattle.std.proofs.lemmas.List.Elements.{All-from_recursion, All-take, Contains-append_left, Contains-append_right}
 use Rattle.std.specs.Int.{int_gap}
 use Rattle.std.specs.List.{AllByRecursion, Contains}
-use Rattle.std.specs.Prelude.{All, Result, Ok, Err, IfOk, min, slice_index_or}
+use Rattle.std.specs.Prelude.{All, Result, Ok, Err, min, slice_index_or}
 use Rattle.nona_tree.specs.declared.names.Use.{Use}
 use Rattle.nona_tree.specs.declared.outcomes.Trap.{Trap}
 use Rattle.nona_tree.specs.declared.outcomes.Outcome.{Outcome}
@@ -17,12 +17,12 @@ use Rattle.nona_tree.specs.declared.trees.Expr.TheBlock.{more_of-Access, end_of-
 use Rattle.nona_tree.specs.declared.trees.Loop.{Loop}
 use Rattle.nona_tree.specs.declared.trees.Stmt.{Stmt, Let, Set, Fold, Put, FoldPut, If', While', For', For, Print, Row_of-Stmt, end_of-Stmt, more_of-Stmt, items-the_row-Stmt, items_hidden-the_row-Stmt-0}
 use Rattle.nona_tree.specs.declared.trees.Stmt.TheBlock.{hidden-the_row-Stmt-0}
-use Rattle.nona_tree.specs.Beside.{on_ok, on_end, on_done, while_gives, first_give}
+use Rattle.nona_tree.specs.Beside.{on_ok, on_end, while_gives, first_give}
 use Rattle.nona_tree.specs.Deeds.{Deed, loads, stores, joins, sets, folds, prints, value_deeds, value_then, cell_then, deeds, deeds_row, deeds_all, SameSizes}
 use Rattle.nona_tree.specs.Entries.{Entry, after}
-use Rattle.nona_tree.specs.Memory.{Memory, scalar_at, cells_of, declare, cut_to}
-use Rattle.nona_tree.specs.Numbers.{IsI64, AreI64, IsI64Expr, IsI64Stmt, IsI64Row}
-use Rattle.nona_tree.specs.Run.{Ran, done, then_from, then_do, block, turn, first_turns, run, run_row, run_all}
+use Rattle.nona_tree.specs.Memory.{Memory, scalar_at, declare, cut_to}
+use Rattle.nona_tree.specs.Numbers.{IsI64, IsI64Stmt, IsI64Row}
+use Rattle.nona_tree.specs.Run.{Ran, then_from, then_do, block, turn, first_turns, run, run_row, run_all}
 use Rattle.nona_tree.specs.Scope.{IsScoped, IsRowScoped, IsSteady, IsRowSteady, AreSteady, is_let, depth_after}
 use Rattle.nona_tree.specs.Value.{Answer, is_zero, value_of, cell_of}
 use Rattle.nona_tree.proofs.BesideEquations.{deeds_body}
@@ -32,9 +32,9 @@ use Rattle.nona_tree.proofs.I64.{value_fits, run_fits, row_fits}
 use Rattle.nona_tree.proofs.Keeps.{SameArrays, arrays_kept, NoFewer, scalars_kept, cut_length, run_kept, row_kept}
 use Rattle.nona_tree.proofs.Steady.{unassigned_stays, all_unassigned_stays}
 use Rattle.nona_forms.specs.Affine.{among}
-use Rattle.nona_forms.specs.References.{Inner, Reference, Fixed, HasValue, IsStoreWith, as_in, IsPossible, IsPossibleAt, given_in, Touches, expr_references, written_references, inside, references, references_row, references_all, assigned_all, missing_below, invariants_of, names_of}
+use Rattle.nona_forms.specs.References.{Inner, Reference, Fixed, HasValue, IsStoreWith, as_in, IsPossible, given_in, expr_references, written_references, inside, references, references_row, references_all, assigned_all, missing_below, invariants_of}
 use Rattle.nona_forms.specs.Separate.{IsLoopEntry}
-use Rattle.nona_forms.specs.Touched.{MayBegin, IsTouched, IsOfAccess}
+use Rattle.nona_forms.specs.Touched.{MayBegin, IsOfAccess}
 use Rattle.nona_forms.proofs.Exact.{fits_found}
 use Rattle.nona_forms.proofs.Sound.{all_of_two}
 use Rattle.nona_forms.proofs.Steadier.{steady_row_more, missing, assigned_body}

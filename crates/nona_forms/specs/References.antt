@@ -1,13 +1,12 @@
 -- The accesses of a loop's body, and the cells that each may name.
-use Rattle.std.specs.Prelude.{◌≡◌, ℕ, ◌<◌, zero, suc, Bool, true, false, not, ◌&&◌, if◌then◌else◌, nat_lt, ℤ, ◌≤ℤ◌, ◌<ℤ◌, List, [], ◌∷◌, ◌++◌, length, map, Ok}
+use Rattle.std.specs.Prelude.{◌≡◌, ℕ, zero, suc, Bool, true, false, if◌then◌else◌, ℤ, ◌≤ℤ◌, ◌<ℤ◌, List, [], ◌∷◌, ◌++◌, map, Ok}
 use Rattle.std.specs.List.{AllByRecursion}
-use Rattle.nona_tree.specs.declared.names.Use.{Use}
 use Rattle.nona_tree.specs.declared.trees.Access.{Access}
-use Rattle.nona_tree.specs.declared.trees.Expr.{Expr, Number, Scalar, Cell', Len, Neg', Not', Binary', more_of-Expr, end_of-Expr}
+use Rattle.nona_tree.specs.declared.trees.Expr.{Expr, Cell', Neg', Not', Binary', more_of-Expr, end_of-Expr}
 use Rattle.nona_tree.specs.declared.trees.Expr.TheBlock.{more_of-Access, end_of-Access}
 use Rattle.nona_tree.specs.declared.trees.Loop.{Loop}
 use Rattle.nona_tree.specs.declared.trees.Stmt.{Stmt, Let, Set, Fold, Put, FoldPut, If', While', For', Print, Row_of-Stmt, end_of-Stmt, more_of-Stmt}
-use Rattle.nona_tree.specs.Memory.{Memory, scalar_at, cells_of}
+use Rattle.nona_tree.specs.Memory.{Memory, scalar_at}
 use Rattle.nona_tree.specs.Value.{value_of, cell_of}
 use Rattle.nona_tree.specs.Numbers.{AreI64}
 use Rattle.nona_tree.specs.Deeds.{SameSizes}

@@ -1,7 +1,7 @@
 -- When two accesses are told apart: the dependence test.
-use Rattle.std.specs.Prelude.{ℕ, zero, suc, ◌*◌, ◌%◌, ◌==◌, Bool, true, false, not, ◌&&◌, ◌||◌, if◌then◌else◌, nat_lt, max, ℤ, pos, negsuc, ◌+ℤ◌, ◌-ℤ◌, ◌*ℤ◌, neg_ℤ, unsigned_abs, int_le, int_lt, List, [], ◌∷◌, filter, Some, None, is_some}
+use Rattle.std.specs.Prelude.{ℕ, zero, suc, ◌*◌, ◌%◌, ◌==◌, Bool, true, false, not, ◌&&◌, ◌||◌, if◌then◌else◌, nat_lt, max, ℤ, pos, negsuc, ◌+ℤ◌, ◌-ℤ◌, neg_ℤ, unsigned_abs, int_le, int_lt, List, [], ◌∷◌, filter, Some, None, is_some}
 use Rattle.std.specs.List.{list_all, list_any}
-use Rattle.std.specs.Int.{int_gap, int_min, int_max, div_ceil}
+use Rattle.std.specs.Int.{int_gap, div_ceil}
 use Rattle.std.specs.Ordering.{int_eq}
 use Rattle.std.specs.declared.option.Option.{Option}
 use Rattle.nona_num.specs.declared.range.Range.{Range}

@@ -61,8 +61,7 @@ fn are_bounded(constant: i128, terms: &[Term]) -> bool
 }
 
 impl Form {
-    /// The form with this constant and these terms, where they are within a form's bounds; else none. The terms have to be in
-    /// order of id and none of them 0 for the form to be one that `form` of nona_affine gives; nothing here rests on it.
+    /// The form with this constant and these terms, where they are within a form's bounds; else none.
     pub fn within(constant: i128, terms: Vec<Term>) -> Option<Form>
         ensures { result ≡ if_bounded (record { constant = constant; terms = terms.items }) }
     {

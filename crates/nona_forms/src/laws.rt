@@ -13,7 +13,7 @@ ghost use Rattle.nona_tree.specs.Memory.{Memory, scalar_at, declare};
 ghost use Rattle.nona_tree.specs.Numbers.{IsI64, IsI64Expr, AreI64};
 ghost use Rattle.nona_tree.specs.Scope.{IsSteady};
 ghost use Rattle.nona_tree.specs.Value.{value_of};
-ghost use Rattle.nona_forms.specs.Affine.{Affine, form_of, form_at};
+ghost use Rattle.nona_forms.specs.Affine.{Affine, among, form_of, form_at};
 ghost use Rattle.nona_forms.specs.References.{Reference, IsPossibleAt, references_all, names_of};
 ghost use Rattle.nona_forms.specs.Verdicts.{names_inside, spot_of, shape_of, is_apart, verdict_of, gcd_of, divides, is_distance, has_multiple};
 ghost use Rattle.nona_forms.specs.Separate.{IsLoopEntry, Lies, AreSeparate};
@@ -22,9 +22,11 @@ ghost use Rattle.nona_forms.specs.Touched.{MayBegin, IsOfAccess};
 ghost use Rattle.nona_forms.specs.declared.shapes.LoopShape.{LoopShape};
 ghost use Rattle.nona_forms.specs.declared.shapes.Spot.{Spot};
 
-/// Says that where the exact value of an expression's form is a number of 64 bits, it is the expression's value.
+/// Says that where the exact value of an expression's form is a number of 64 bits, it is the expression's value; and that the
+/// form depends on nothing of the names but which scalars are among them.
 pub fn form_is_value()
-    ensures { (e : Expr) (names : List ℕ) (m : Memory) (f : Affine) → form_of e names ≡ Some f → IsI64Expr e → AreI64 m → IsI64 (form_at (scalar_at m) f)
+    ensures members { (e : Expr) (names others : List ℕ) → ((id : ℕ) → among id names ≡ among id others) → form_of e names ≡ form_of e others }
+    ensures value { (e : Expr) (names : List ℕ) (m : Memory) (f : Affine) → form_of e names ≡ Some f → IsI64Expr e → AreI64 m → IsI64 (form_at (scalar_at m) f)
         → value_of e m ≡ Ok (form_at (scalar_at m) f) }
 {}
 
