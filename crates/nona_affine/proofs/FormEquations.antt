@@ -5,7 +5,7 @@ use Rattle.nona_tree.specs.declared.trees.Op.{Op}
 use Rattle.nona_tree.specs.declared.trees.Access.{Access}
 use Rattle.nona_tree.specs.declared.trees.Expr.{Expr, Cell, Neg, Not, Binary}
 use Rattle.nona_tree.specs.declared.trees.Expr.TheBlock.{hidden-the_row-Expr-1, hidden-the_row-Access-0}
-use Rattle.nona_forms.specs.Affine.{Affine, form_of, form_by, on_form, if_bounded, times_form}
+use Rattle.nona_forms.specs.Affine.{form_of, form_by, on_form, if_bounded, times_form}
 
 pub form-Cell : (c : Access) (names : List ℕ) → form_of (Cell c) names ≡ None
 unfolding hidden-the_row-Access-0 hidden

@@ -1,11 +1,11 @@
 -- Forms that are out of bounds, and turned forms.
-use Rattle.std.proofs.Common.{◌≡◌, ℕ, ◌+◌, ◌<◌, ◌≤◌, ◌&&◌, ◌||◌, ◌==◌, IsTrue, Bool, true, false, ℤ, pos, negsuc, ◌*ℤ◌, List, [], ◌∷◌, length, refl, sym, ap, subst, ◌∙◌, arith, if◌then◌else◌, Some, None}
+use Rattle.std.proofs.Common.{◌≡◌, ℕ, ◌+◌, ◌≤◌, ◌&&◌, IsTrue, Bool, true, false, ℤ, pos, negsuc, ◌*ℤ◌, List, [], ◌∷◌, length, refl, sym, ap, subst, ◌∙◌, arith, if◌then◌else◌, Some, None}
 use Rattle.std.proofs.lemmas.Int.{ints}
-use Rattle.std.specs.List.{list_all, list_any}
-use Rattle.std.specs.Prelude.{int_le, nat_le, All, slice_index_or}
+use Rattle.std.specs.List.{list_all}
+use Rattle.std.specs.Prelude.{nat_le, All, slice_index_or}
 use Rattle.nona_tree.specs.Value.{is_zero}
 use Rattle.nona_forms.specs.declared.terms.Term.{Term}
-use Rattle.nona_forms.specs.Affine.{Affine, with_term, times_terms, times_form, is_coefficient, is_constant, is_bounded, if_bounded, among}
+use Rattle.nona_forms.specs.Affine.{Affine, times_terms, times_form, is_coefficient, is_constant, is_bounded, if_bounded}
 use Rattle.nona_affine.proofs.Bools.{both_true}
 
 all_with : (id : ℕ) (c : ℤ) (ts : List Term) (b : Bool) → (b ≡ true → c ≡ pos 0)

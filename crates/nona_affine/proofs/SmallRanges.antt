@@ -1,15 +1,13 @@
 -- How large the numbers of ranges grow.
-use Rattle.std.proofs.Common.{◌≡◌, ℕ, zero, suc, ◌+◌, ◌*◌, ◌^◌, ◌<◌, ◌≤◌, ◌&&◌, IsTrue, Bool, true, false, ℤ, pos, negsuc, ◌+ℤ◌, ◌*ℤ◌, ◌-ℤ◌, ◌≤ℤ◌, neg_ℤ, List, [], ◌∷◌, ◌++◌, length, take, filter, refl, sym, ap, ◌∙◌, subst, arith, if◌then◌else◌, FitsSigned, nat_lt, append-nil, Some, None, is_some}
-use Rattle.std.proofs.Math.IntN.{+ℤ_assoc, +ℤ_comm, +ℤ_idl, +ℤ_idr}
+use Rattle.std.proofs.Common.{◌≡◌, ℕ, zero, suc, ◌+◌, ◌*◌, ◌^◌, ◌<◌, ◌≤◌, ◌&&◌, IsTrue, Bool, true, false, ℤ, pos, negsuc, ◌+ℤ◌, ◌*ℤ◌, ◌-ℤ◌, ◌≤ℤ◌, neg_ℤ, List, [], ◌∷◌, ◌++◌, length, take, refl, sym, ap, ◌∙◌, subst, arith, if◌then◌else◌, FitsSigned, nat_lt, append-nil, Some, None, is_some}
+use Rattle.std.proofs.Math.IntN.{+ℤ_assoc, +ℤ_idl, +ℤ_idr}
 use Rattle.std.proofs.Math.Nat.{mul-le-mul}
-use Rattle.std.proofs.lemmas.Int.{ints, clamps, unsigned_abs-mul, fits_signed_mul}
+use Rattle.std.proofs.lemmas.Int.{ints, unsigned_abs-mul}
 use Rattle.std.proofs.lemmas.List.{take_more}
 use Rattle.std.proofs.lemmas.List.Elements.{filter-append}
 use Rattle.std.proofs.lemmas.List.Folds.{list_all-append}
 use Rattle.std.specs.Int.{int_min, int_max, w64, w128}
-use Rattle.std.specs.List.{list_all}
 use Rattle.std.specs.Prelude.{unsigned_abs, slice_index_or}
-use Rattle.std.specs.declared.option.Option.{Option}
 use Rattle.nona_num.specs.declared.range.Range.{Range}
 use Rattle.nona_forms.specs.declared.terms.Term.{Term}
 use Rattle.nona_forms.specs.declared.shapes.InnerLoop.{InnerLoop}
@@ -18,7 +16,6 @@ use Rattle.nona_affine.specs.Small.{IsSmallRange}
 use Rattle.nona_affine.specs.Steps.{added_term}
 use Rattle.nona_forms.specs.Boxes.{times_range, sum_range, box}
 use Rattle.nona_forms.specs.Verdicts.{inner_box, bounds_of, range_in, all_fixed, inner_terms}
-use Rattle.nona_affine.proofs.Bools.{both_true}
 
 pub coefficient_small : (c : ℤ) → IsTrue (is_coefficient c) → unsigned_abs c ≤ 2147483648
 coefficient_small (pos n) h = grind (arith, ints)

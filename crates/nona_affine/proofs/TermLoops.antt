@@ -1,11 +1,11 @@
 -- Loops over terms.
-use Rattle.std.proofs.Common.{◌≡◌, ℕ, zero, suc, ◌+◌, ◌<◌, ◌≤◌, Bool, true, false, ℤ, ◌*ℤ◌, ◌+ℤ◌, List, [], ◌∷◌, ◌++◌, length, take, drop, nat_lt, refl, sym, ap, ◌∙◌, arith, if◌then◌else◌, append_assoc, append-nil}
+use Rattle.std.proofs.Common.{◌≡◌, ℕ, suc, ◌+◌, ◌<◌, ◌≤◌, Bool, true, false, ℤ, ◌*ℤ◌, ◌+ℤ◌, List, [], ◌∷◌, ◌++◌, length, take, drop, nat_lt, refl, sym, ap, ◌∙◌, arith, if◌then◌else◌, append_assoc, append-nil}
 use Rattle.std.proofs.Math.Seq.{drop-cons}
 use Rattle.std.proofs.lemmas.List.{take_more, drop_all}
 use Rattle.std.specs.Prelude.{slice_index_or}
 use Rattle.nona_tree.specs.Value.{is_zero}
 use Rattle.nona_forms.specs.declared.terms.Term.{Term}
-use Rattle.nona_forms.specs.Affine.{with_term, merge_term, sum_terms, times_terms}
+use Rattle.nona_forms.specs.Affine.{with_term, sum_terms, times_terms}
 
 with_front : (id : ℕ) (c : ℤ) (ts : List Term) (b : Bool) → (if b then ts else record { id = id; coefficient = c } ∷ ts) ≡ (if b then [] else record { id = id; coefficient = c } ∷ []) ++ ts
 with_front id c ts true = refl

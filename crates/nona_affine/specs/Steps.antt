@@ -1,5 +1,5 @@
 -- A step of the sum of a box range, and the ranges that a list of bounds gives.
-use Rattle.std.specs.Prelude.{◌≡◌, ℕ, ◌==◌, Bool, true, false, nat_lt, if◌then◌else◌, ℤ, pos, List, [], ◌∷◌, Some, None, is_some}
+use Rattle.std.specs.Prelude.{◌≡◌, ℕ, ◌==◌, Bool, true, false, nat_lt, if◌then◌else◌, pos, List, [], ◌∷◌, Some, None, is_some}
 use Rattle.std.specs.declared.option.Option.{Option}
 use Rattle.nona_num.specs.declared.range.Range.{Range}
 use Rattle.nona_tree.specs.Numbers.{IsI64}
@@ -8,10 +8,16 @@ use Rattle.nona_forms.specs.declared.terms.Term.{Term}
 use Rattle.nona_forms.specs.Boxes.{sum_range, times_range}
 use Rattle.nona_forms.specs.Verdicts.{bounds_of, range_in}
 
+-- the range of an inner index's term; none where the index has no constant bounds
+abbrev pub term_in : List InnerLoop → Term → Option Range
+term_in inner t =
+    if is_some (bounds_of inner t.id) then Some (times_range t.coefficient (range_in (bounds_of inner t.id))) else None
+
 -- a range and that of one more term, unless it is no inner index's; none where the bounds aren't constant
 abbrev pub added_term : ℕ → List InnerLoop → Term → Range → Option Range
 added_term index inner t r =
-    if nat_lt index t.id then (if is_some (bounds_of inner t.id) then Some (sum_range r (times_range t.coefficient (range_in (bounds_of inner t.id)))) else None) else Some r
+    if nat_lt index t.id then (if is_some (bounds_of inner t.id) then Some (sum_range r (times_range t.coefficient (range_in (bounds_of inner t.id)))) else None)
+    else Some r
 
 -- the range that a list gives a scalar: the first one with its id, and 0 alone where it has none
 abbrev pub range_among : List (ℕ × Range) → ℕ → Range

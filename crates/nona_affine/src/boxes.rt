@@ -4,7 +4,7 @@ ghost use Rattle.std.specs.Prelude.{◌≡◌, ◌≤◌, ◌<◌, ◌+◌, ◌*
 ghost use Rattle.nona_forms.specs.Affine.{is_coefficient, is_constant, no_terms};
 ghost use Rattle.nona_forms.specs.Boxes.{times_range, sum_range};
 ghost use Rattle.nona_forms.specs.Verdicts.{fixed_of, fixed_inner, bounds_of, range_in, all_fixed, inner_box, inner_part, inner_terms};
-ghost use Rattle.nona_affine.specs.Steps.{added_term};
+ghost use Rattle.nona_affine.specs.Steps.{term_in, added_term};
 ghost use Rattle.nona_affine.specs.Small.{IsSmallRange};
 ghost use Rattle.nona_forms.specs.declared.terms.Term.{Term};
 
@@ -98,7 +98,7 @@ fn term_between(coefficient: i64, low: i64, high: i64) -> Range
 /// The range of a term of an inner index, where its bounds are constant.
 fn term_range(inner: &[InnerLoop], term: Term) -> Option<Range>
     requires { IsTrue (is_coefficient term.coefficient) }
-    ensures range { result ≡ (if is_some (bounds_of inner.now term.id) then Some (times_range term.coefficient (range_in (bounds_of inner.now term.id))) else None) }
+    ensures range { result ≡ term_in inner.now term }
     ensures small { IfSome result (IsSmallRange (2 ^ 95)) }
 {
     match inner_bounds(inner, term.id) {

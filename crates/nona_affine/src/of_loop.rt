@@ -4,7 +4,7 @@ ghost use Rattle.std.specs.Prelude.{◌≡◌, ◌++◌, [], ◌∷◌, map, IfO
 ghost use Rattle.nona_tree.specs.declared.trees.Stmt.{For};
 ghost use Rattle.nona_forms.specs.References.{expr_references, written_references, references, references_all, names_of};
 ghost use Rattle.nona_forms.specs.Verdicts.{spot_of};
-ghost use Rattle.nona_affine.specs.Lists.{spot_in};
+ghost use Rattle.nona_affine.specs.Lists.{bare, spot_in};
 ghost use Rattle.nona_affine.specs.Spotted.{spots_in};
 
 use crate::around::Around;
@@ -36,7 +36,7 @@ fn push_spot(
     around: &Around,
     spots: &mut Vec<Spot>,
 ) -> Result<(), AllocError>
-    ensures { OnOk result (spots.new.items ≡ spots.old.items ++ spots_in names.now around.now (record { access = access.now; write = write; inner = [] } ∷ [])) }
+    ensures { OnOk result (spots.new.items ≡ spots.old.items ++ spots_in names.now around.now (bare access.now write ∷ [])) }
 {
     spots.push(Spot {
         array: access.array.id,

@@ -6,7 +6,7 @@ ghost use Rattle.std.specs.Ordering.{int_eq};
 ghost use Rattle.nona_tree.specs.Value.{is_zero};
 ghost use Rattle.nona_num.specs.declared.range.Range.{Range};
 ghost use Rattle.nona_forms.specs.Boxes.{sum_range, times_range};
-ghost use Rattle.nona_forms.specs.Verdicts.{is_empty, fixed_inner, divides, has_multiple, has_distance, is_outside, coefficient_of, range_in, some_empty, is_undivided, near_of, far_of, inner_part, is_too_near, is_too_far, invariant_terms, same_terms, are_apart, if_form, is_apart, verdict_of};
+ghost use Rattle.nona_forms.specs.Verdicts.{is_empty, fixed_inner, divides, has_multiple, has_distance, is_outside, coefficient_of, range_in, some_empty, is_undivided, near_of, far_of, rest_range, whole_range, has_reason, inner_part, is_too_near, is_too_far, invariant_terms, same_terms, are_apart, if_form, is_apart, verdict_of};
 ghost use Rattle.nona_affine.specs.Small.{IsSmallRange};
 
 use crate::boxes::{fixed_bounds, inner_range, range_between, sum_range};
@@ -145,7 +145,7 @@ fn rest_range(left: Range, right: Range, number: i128) -> Range
     requires left { IsSmallRange (2 ^ 115) left }
     requires right { IsSmallRange (2 ^ 115) right }
     requires number { unsigned_abs number ≤ 2 ^ 64 }
-    ensures rest { result ≡ sum_range (sum_range right (times_range (negsuc 0) left)) (record { low = number; high = number }) }
+    ensures rest { result ≡ rest_range left right number }
     ensures small { IsSmallRange (2 ^ 117) result }
 {
     sum_range(sum_range(right, opposite(left)), alone(number))
@@ -288,7 +288,7 @@ fn far_range(low: i64, high: i64, first: i64, second: i64, left: Range, right: R
     requires second { unsigned_abs second ≤ 2 ^ 51 }
     requires left { IsSmallRange (2 ^ 115) left }
     requires right { IsSmallRange (2 ^ 115) right }
-    ensures { result ≡ sum_range (sum_range (times_range first (range_in (Some (low, high)))) (times_range (neg_ℤ second) (range_in (Some (low, high))))) (sum_range left (times_range (negsuc 0) right)) }
+    ensures { result ≡ whole_range (low, high) first second left right }
 {
     let own = small_index_part(first, low, high);
     let other = small_index_part(opposite_of(second), low, high);
@@ -348,7 +348,7 @@ fn is_too_far(shape: &LoopShape, x: &Spot, y: &Spot, f: &Form, g: &Form) -> bool
 
 /// Whether one of four reasons tells two accesses of the same invariant part apart.
 fn has_reason(shape: &LoopShape, x: &Spot, y: &Spot, f: &Form, g: &Form) -> bool
-    ensures { result ≡ (some_empty shape.now x.now y.now || (is_undivided shape.now f.now g.now || (is_too_near shape.now x.now y.now f.now g.now || is_too_far shape.now x.now y.now f.now g.now))) }
+    ensures { result ≡ has_reason shape.now x.now y.now f.now g.now }
 {
     some_loop_is_empty(shape, x, y)
         || is_undivided(shape, f, g)

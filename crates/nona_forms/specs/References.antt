@@ -122,7 +122,8 @@ as_in entry id = record { id = id; value = scalar_at entry id }
 abbrev pub IsPossible : Memory → List Inner → List Fixed → Memory → Type 0
 IsPossible entry [] fixed m = IsStoreWith entry fixed m
 IsPossible entry (l ∷ inner) fixed m =
-    (k : Memory) × (low : ℤ) × (high : ℤ) × (j : ℤ) × IsStoreWith entry fixed k × (value_of l.low k ≡ Ok low) × (value_of l.high k ≡ Ok high) × (low ≤ℤ j) × (j <ℤ high) × IsPossible entry inner (record { id = l.id; value = j } ∷ fixed) m
+    (k : Memory) × (low : ℤ) × (high : ℤ) × (j : ℤ) × IsStoreWith entry fixed k × (value_of l.low k ≡ Ok low) × (value_of l.high k ≡ Ok high)
+    × (low ≤ℤ j) × (j <ℤ high) × IsPossible entry inner (record { id = l.id; value = j } ∷ fixed) m
 
 -- what is given in iteration i of a loop: the index and the invariants
 abbrev pub given_in : Loop → Memory → ℤ → List Fixed

@@ -51,7 +51,8 @@ bounds_rule shape x y f g = answers (is_too_far shape x y f g) Apart
 -- the rules on two forms, in order
 abbrev pub rules_of : LoopShape → Spot → Spot → Affine → Affine → List (Option Verdict)
 rules_of shape x y f g =
-    invariants_rule shape f g ∷ empty_rule shape x y ∷ constants_rule shape f g ∷ divisor_rule shape f g ∷ distance_rule shape x y f g ∷ bounds_rule shape x y f g ∷ []
+    invariants_rule shape f g ∷ empty_rule shape x y ∷ constants_rule shape f g
+    ∷ divisor_rule shape f g ∷ distance_rule shape x y f g ∷ bounds_rule shape x y f g ∷ []
 
 -- the first answer, and Maybe where no rule answers
 abbrev pub first_answer : List (Option Verdict) → Verdict

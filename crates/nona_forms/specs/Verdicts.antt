@@ -16,7 +16,7 @@ use Rattle.nona_forms.specs.declared.shapes.Spot.{Spot}
 use Rattle.nona_forms.specs.declared.shapes.Verdict.{Verdict}
 use Rattle.nona_forms.specs.declared.shapes.Verdict.TheVariants.{Apart, Maybe}
 use Rattle.nona_forms.specs.References.{Inner, Reference, names_of}
-use Rattle.nona_forms.specs.Boxes.{sum_range, times_range, box}
+use Rattle.nona_forms.specs.Boxes.{sum_range, times_range, box, point}
 
 -- constant bounds, where both forms exist without terms
 abbrev pub fixed_of : Option Affine → Option Affine → Option (ℤ × ℤ)
@@ -37,7 +37,8 @@ names_inside names (l ∷ inner) = names_inside (l.id ∷ names) inner
 -- an access as the test sees it
 abbrev pub spot_of : List ℕ → Reference → Spot
 spot_of names x =
-    record { array = x.access.array.id; at = x.access.array.at; wrap = x.access.wrap; write = x.write; form = form_of x.access.index (names_inside names x.inner); inner = inner_forms names x.inner }
+    record { array = x.access.array.id; at = x.access.array.at; wrap = x.access.wrap; write = x.write;
+    form = form_of x.access.index (names_inside names x.inner); inner = inner_forms names x.inner }
 
 abbrev pub shape_of : Loop → LoopShape
 shape_of l = record { index = l.index.id; fixed = fixed_of (form_of l.low (names_of l)) (form_of l.high (names_of l)) }
@@ -139,37 +140,53 @@ is_undivided shape f g =
 abbrev pub inner_part : ℕ → List InnerLoop → List Term → Option Range
 inner_part index inner ts = if all_fixed inner (inner_terms index ts) then Some (inner_box inner (inner_terms index ts)) else None
 
+-- the range of the second inner part less the first, plus a number
+abbrev pub rest_range : Range → Range → ℤ → Range
+rest_range left right k = sum_range (sum_range right (times_range (negsuc 0) left)) (point k)
+
 -- where both inner parts have ranges: c times no distance between two iterations lies in the second less the first plus k
 abbrev pub near_of : Option (ℤ × ℤ) → ℤ → Option Range → Option Range → ℤ → Bool
 near_of fixed c (Some left) (Some right) k =
-    not (has_distance fixed c (sum_range (sum_range right (times_range (negsuc 0) left)) (record { low = k; high = k })))
+    not (has_distance fixed c (rest_range left right k))
 near_of fixed c _ _ k = false
 
--- where both inner parts have ranges, and so has the region's index: k lies outside c times an index less d times an index
--- plus the first part less the second
+-- the range of c times an index less d times another one, each within these bounds, plus the first inner part less the second
+abbrev pub whole_range : ℤ × ℤ → ℤ → ℤ → Range → Range → Range
+whole_range b c d left right =
+    sum_range (sum_range (times_range c (range_in (Some b))) (times_range (neg_ℤ d) (range_in (Some b)))) (sum_range left (times_range (negsuc 0) right))
+
+-- where both inner parts have ranges, and so has the region's index: k lies outside what all indices make
 abbrev pub far_of : Option (ℤ × ℤ) → ℤ → ℤ → Option Range → Option Range → ℤ → Bool
 far_of (Some b) c d (Some left) (Some right) k =
-    is_outside k (sum_range (sum_range (times_range c (range_in (Some b))) (times_range (neg_ℤ d) (range_in (Some b)))) (sum_range left (times_range (negsuc 0) right)))
+    is_outside k (whole_range b c d left right)
 far_of _ c d _ _ k = false
 
 -- the same coefficient of the region's index, and no distance between two iterations makes up for the rest
 abbrev pub is_too_near : LoopShape → Spot → Spot → Affine → Affine → Bool
 is_too_near shape x y f g =
     let c = coefficient_of shape.index f.terms in
-    int_eq c (coefficient_of shape.index g.terms) && (not (is_zero c) && near_of shape.fixed c (inner_part shape.index x.inner f.terms) (inner_part shape.index y.inner g.terms) (g.constant -ℤ f.constant))
+    let left = inner_part shape.index x.inner f.terms in
+    let right = inner_part shape.index y.inner g.terms in
+    int_eq c (coefficient_of shape.index g.terms) && (not (is_zero c) && near_of shape.fixed c left right (g.constant -ℤ f.constant))
 
 -- other coefficients of the region's index, and the difference lies outside what all indices make
 abbrev pub is_too_far : LoopShape → Spot → Spot → Affine → Affine → Bool
 is_too_far shape x y f g =
     let c = coefficient_of shape.index f.terms in
     let d = coefficient_of shape.index g.terms in
-    not (int_eq c d) && far_of shape.fixed c d (inner_part shape.index x.inner f.terms) (inner_part shape.index y.inner g.terms) (g.constant -ℤ f.constant)
+    let left = inner_part shape.index x.inner f.terms in
+    let right = inner_part shape.index y.inner g.terms in
+    not (int_eq c d) && far_of shape.fixed c d left right (g.constant -ℤ f.constant)
 
--- whether two forms are told apart: their invariant parts are the same, and one of four reasons holds
+-- whether one of four reasons tells two forms of the same invariant part apart
+abbrev pub has_reason : LoopShape → Spot → Spot → Affine → Affine → Bool
+has_reason shape x y f g =
+    some_empty shape x y || (is_undivided shape f g || (is_too_near shape x y f g || is_too_far shape x y f g))
+
+-- whether two forms are told apart: their invariant parts are the same, and a reason holds
 abbrev pub are_apart : LoopShape → Spot → Spot → Affine → Affine → Bool
 are_apart shape x y f g =
-    same_terms (invariant_terms shape.index f.terms) (invariant_terms shape.index g.terms)
-    && (some_empty shape x y || (is_undivided shape f g || (is_too_near shape x y f g || is_too_far shape x y f g)))
+    same_terms (invariant_terms shape.index f.terms) (invariant_terms shape.index g.terms) && has_reason shape x y f g
 
 -- goes on with a form
 abbrev pub if_form : Option Affine → (Affine → Bool) → Bool

@@ -61,8 +61,8 @@ pub fn pair_laws()
 /// Says that what an iteration does to cells, it does by the accesses of the loop: from a store in which it may begin, each of
 /// its deeds on a cell is of an access that touches the cell in that iteration. It may begin where those before it end.
 pub fn deeds_touch()
-    ensures touched { (l : Loop) (entry : Memory) (low last i : ℤ) (n : ℕ) (m : Memory) → IsLoopEntry l entry low last → IsSteady (For l) [] → low ≤ℤ i → i <ℤ last
-        → MayBegin l entry m → All (IsOfAccess l entry i) (deeds_all l.body n (declare i m)) }
+    ensures touched { (l : Loop) (entry : Memory) (low last i : ℤ) (n : ℕ) (m : Memory) → IsLoopEntry l entry low last → IsSteady (For l) []
+        → low ≤ℤ i → i <ℤ last → MayBegin l entry m → All (IsOfAccess l entry i) (deeds_all l.body n (declare i m)) }
     ensures begins { (e : Entry) (k : ℕ) → IsLoopEntry e.looped e.store e.low e.last → IsSteady (For e.looped) [] → (e.low +ℤ pos k) ≤ℤ e.last
         → MayBegin e.looped e.store (after e k).store }
 {}

@@ -1,6 +1,4 @@
-use Rattle.std.proofs.Common.{rules, ◌≡◌, ◌≤◌, ◌+◌, ◌*◌, ◌^◌, ◌∙◌, ap, sym, subst, arith, false, true, Some, None}
-use Rattle.std.specs.Prelude.{slice_index_or, if◌then◌else◌}
-use Rattle.nona_forms.specs.Verdicts.{all_fixed, inner_box, inner_terms}
+use Rattle.std.proofs.Common.{◌*◌, ◌^◌, ◌∙◌, sym}
 use Rattle.nona_affine.proofs.SmallRanges.{one_more, none_fixed, if_none, one_step}
 use Rattle.nona_affine.proofs.boxes.inner_range.Goals as goal
 

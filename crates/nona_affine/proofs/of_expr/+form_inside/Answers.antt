@@ -1,4 +1,4 @@
-use Rattle.std.proofs.Common.{rules, ap, ◌∙◌, ◌++◌}
+use Rattle.std.proofs.Common.{ap, ◌∙◌, ◌++◌}
 use Rattle.nona_forms.specs.Affine.{form_of}
 use Rattle.nona_affine.proofs.FormEquations.{form-Binary}
 use Rattle.nona_affine.proofs.of_expr.+form_inside.Goals as goal

@@ -1,4 +1,4 @@
-use Rattle.std.proofs.Common.{rules, ◌∙◌, ap, neg_ℤ, negsuc, ℤ, Some, FitsSigned, w64}
+use Rattle.std.proofs.Common.{rules, ◌∙◌, ap, negsuc, ℤ, Some, FitsSigned, w64}
 use Rattle.std.proofs.lemmas.Int.{to_z-of_z}
 use Rattle.nona_num.specs.declared.range.Range.{Range}
 use Rattle.nona_forms.specs.Boxes.{sum_range, times_range}

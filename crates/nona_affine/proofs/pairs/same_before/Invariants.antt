@@ -1,4 +1,4 @@
-use Rattle.std.proofs.Common.{◌≡◌, ◌≤◌, ◌<◌, ◌+◌, ◌-◌, length, drop, true, pos, nat_lt}
+use Rattle.std.proofs.Common.{◌≡◌, ◌≤◌, ◌<◌, ◌-◌, length, drop, true, pos, nat_lt}
 use Rattle.std.specs.Prelude.{slice_index_or}
 use Rattle.nona_forms.specs.Verdicts.{invariant_terms, same_terms}
 use Rattle.nona_affine.proofs.pairs.same_before.Given as goal

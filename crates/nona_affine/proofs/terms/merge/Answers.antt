@@ -1,4 +1,4 @@
-use Rattle.std.proofs.Common.{rules, ◌≡◌, ◌≤◌, ◌++◌, ◌∙◌, ap, sym, arith, drop, length, append_assoc}
+use Rattle.std.proofs.Common.{◌≡◌, ◌++◌, ◌∙◌, ap, sym, arith, drop, append_assoc}
 use Rattle.nona_forms.specs.Affine.{sum_terms}
 use Rattle.nona_affine.proofs.TermLoops.{merge_end_left, merge_end_right}
 use Rattle.nona_affine.proofs.terms.merge.Goals.{then-loop-i-test+else-j-right, else-loop-i-test}
