@@ -91,31 +91,116 @@ pub enum Expr {
 }
 
 impl Expr {
+    /// A number, in a box. The one error is that memory ran out, as with all that make an expression in a box.
+    #[inline(never)]
+    pub fn boxed_number(alloc: Global, value: i64) -> Result<Boxed<Expr>, AllocError>
+        ensures { IfOk result (λ e. e ≡ Expr.Number value) }
+    {
+        Boxed::new(alloc, Expr::Number(value))
+    }
+
+    /// `-value`, in a box.
+    #[inline(never)]
+    pub fn boxed_neg(alloc: Global, value: Boxed<Expr>) -> Result<Boxed<Expr>, AllocError>
+        ensures { IfOk result (λ e. e ≡ Expr.Neg value) }
+    {
+        Boxed::new(alloc, Expr::Neg(value))
+    }
+
+    /// `!value`, in a box.
+    #[inline(never)]
+    pub fn boxed_not(alloc: Global, value: Boxed<Expr>) -> Result<Boxed<Expr>, AllocError>
+        ensures { IfOk result (λ e. e ≡ Expr.Not value) }
+    {
+        Boxed::new(alloc, Expr::Not(value))
+    }
+
+    /// `left op right`, in a box; `at` is the place of the operator.
+    #[inline(never)]
+    pub fn boxed_binary(
+        alloc: Global,
+        op: Op,
+        at: u32,
+        left: Boxed<Expr>,
+        right: Boxed<Expr>,
+    ) -> Result<Boxed<Expr>, AllocError>
+        ensures { IfOk result (λ e. e ≡ Expr.Binary op at left right) }
+    {
+        let both = Expr::Binary {
+            op,
+            at,
+            left,
+            right,
+        };
+        Boxed::new(alloc, both)
+    }
+
     /// An equal expression. The one error is that memory ran out.
     #[cycle(expr)]
     pub fn copy(&self, alloc: Global) -> Result<Expr, AllocError>
         ensures { IfOk result (λ e. e ≡ self.now) }
     {
+        let copied = self.copy_boxed(alloc)?;
+        Ok(copied.into_inner())
+    }
+
+    /// An equal expression, in a box. An expression may be some 4,096 levels deep: 64 brackets with 64 operators in each.
+    /// So a level takes little of the stack here: what is large is in a function of its own.
+    #[cycle(expr)]
+    fn copy_boxed(&self, alloc: Global) -> Result<Boxed<Expr>, AllocError>
+        ensures { IfOk result (λ e. e ≡ self.now) }
+    {
         match self {
-            Expr::Number(value) => Ok(Expr::Number(*value)),
-            Expr::Scalar(name) => Ok(Expr::Scalar(name.copy())),
-            Expr::Cell(place) => Ok(Expr::Cell(Boxed::new(alloc, place.get().copy(alloc)?)?)),
-            Expr::Len(array) => Ok(Expr::Len(array.copy())),
-            Expr::Neg(value) => Ok(Expr::Neg(Boxed::new(alloc, value.get().copy(alloc)?)?)),
-            Expr::Not(value) => Ok(Expr::Not(Boxed::new(alloc, value.get().copy(alloc)?)?)),
+            Expr::Number(value) => Expr::boxed_number(alloc, *value),
+            Expr::Scalar(name) => copy_scalar(alloc, name),
+            Expr::Cell(place) => copy_cell(alloc, place.get()),
+            Expr::Len(array) => copy_length(alloc, array),
+            Expr::Neg(value) => {
+                let value = value.get().copy_boxed(alloc)?;
+                Expr::boxed_neg(alloc, value)
+            }
+            Expr::Not(value) => {
+                let value = value.get().copy_boxed(alloc)?;
+                Expr::boxed_not(alloc, value)
+            }
             Expr::Binary {
                 op,
                 at,
                 left,
                 right,
-            } => Ok(Expr::Binary {
-                op: *op,
-                at: *at,
-                left: Boxed::new(alloc, left.get().copy(alloc)?)?,
-                right: Boxed::new(alloc, right.get().copy(alloc)?)?,
-            }),
+            } => {
+                let left = left.get().copy_boxed(alloc)?;
+                let right = right.get().copy_boxed(alloc)?;
+                Expr::boxed_binary(alloc, *op, *at, left, right)
+            }
         }
     }
+}
+
+/// A scalar of this name, in a box.
+#[inline(never)]
+fn copy_scalar(alloc: Global, name: &Use) -> Result<Boxed<Expr>, AllocError>
+    ensures { IfOk result (λ e. e ≡ Expr.Scalar name.now) }
+{
+    Boxed::new(alloc, Expr::Scalar(name.copy()))
+}
+
+/// The length of the array of this name, in a box.
+#[inline(never)]
+fn copy_length(alloc: Global, array: &Use) -> Result<Boxed<Expr>, AllocError>
+    ensures { IfOk result (λ e. e ≡ Expr.Len array.now) }
+{
+    Boxed::new(alloc, Expr::Len(array.copy()))
+}
+
+/// An equal cell, in a box.
+#[inline(never)]
+#[cycle(expr)]
+fn copy_cell(alloc: Global, place: &Access) -> Result<Boxed<Expr>, AllocError>
+    ensures { IfOk result (λ e. e ≡ Expr.Cell place.now) }
+{
+    let copied = Boxed::new(alloc, place.copy(alloc)?)?;
+    Boxed::new(alloc, Expr::Cell(copied))
 }
 
 /// A loop whose index runs from `low` up to, without, `high`.
