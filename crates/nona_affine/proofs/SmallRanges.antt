@@ -100,9 +100,10 @@ step_at : (index : ℕ) (inner : List InnerLoop) (ts : List Term) (t : Term) (r 
     → (if less then (if known then Some (sum_range r (times_range t.coefficient (range_in (bounds_of inner t.id)))) else None) else Some r) ≡ Some s
     → (xs : List Term) → (if less then t ∷ [] else []) ≡ xs → (all_fixed inner (inner_terms index ts ++ xs) ≡ true) × (s ≡ inner_box inner (inner_terms index ts ++ xs))
 step_at index inner ts t r s true true e k h same xs x =
-    subst (λ ys. (all_fixed inner (inner_terms index ts ++ ys) ≡ true) × (s ≡ inner_box inner (inner_terms index ts ++ ys))) x
-    ((list_all-append (λ (u : Term). is_some (bounds_of inner u.id)) (inner_terms index ts) (t ∷ []) ∙ and_true _ _ h.fixed (and_true _ _ k refl)),
-     (found s (sum_range r (times_range t.coefficient (range_in (bounds_of inner t.id)))) same ∙ ap (λ q. sum_range q (times_range t.coefficient (range_in (bounds_of inner t.id)))) h.total ∙ sym (box_both (λ id. range_in (bounds_of inner id)) (inner_terms index ts) (t ∷ []) ∙ ap (sum_range (inner_box inner (inner_terms index ts))) (box_one (λ id. range_in (bounds_of inner id)) t))))
+    subst (λ ys. (all_fixed inner (inner_terms index ts ++ ys) ≡ true) × (s ≡ inner_box inner (inner_terms index ts ++ ys))) x (
+      (list_all-append (λ (u : Term). is_some (bounds_of inner u.id)) (inner_terms index ts) (t ∷ []) ∙ and_true _ _ h.fixed (and_true _ _ k refl)),
+      (found s (sum_range r (times_range t.coefficient (range_in (bounds_of inner t.id)))) same ∙ ap (λ q. sum_range q (times_range t.coefficient (range_in (bounds_of inner t.id)))) h.total ∙ sym (box_both (λ id. range_in (bounds_of inner id)) (inner_terms index ts) (t ∷ []) ∙ ap (sum_range (inner_box inner (inner_terms index ts))) (box_one (λ id. range_in (bounds_of inner id)) t))),
+    )
 step_at index inner ts t r s true false e k h same xs x = cc
 step_at index inner ts t r s false known e k h same xs x =
     subst (λ ys. (all_fixed inner (inner_terms index ts ++ ys) ≡ true) × (s ≡ inner_box inner (inner_terms index ts ++ ys))) x

@@ -29,5 +29,11 @@ bare access write = record { access = access; write = write; inner = [] }
 -- an access of a part that stands inside some inner loops, where these names may occur
 abbrev pub spot_in : List ℕ → List InnerLoop → Reference → Spot
 spot_in names around x =
-    record { array = x.access.array.id; at = x.access.array.at; wrap = x.access.wrap; write = x.write;
-    form = form_of x.access.index (names_inside names x.inner); inner = around ++ inner_forms names x.inner }
+    record {
+      array = x.access.array.id;
+      at = x.access.array.at;
+      wrap = x.access.wrap;
+      write = x.write;
+      form = form_of x.access.index (names_inside names x.inner);
+      inner = around ++ inner_forms names x.inner;
+    }

@@ -165,7 +165,12 @@ fn may_occur(id: u32, inner: &Ids, names: &Names) -> bool
 }
 
 /// The form of a scalar, if it may occur.
-pub fn scalar(alloc: Global, id: u32, inner: &Ids, names: &Names) -> Result<Option<Form>, AllocError>
+pub fn scalar(
+    alloc: Global,
+    id: u32,
+    inner: &Ids,
+    names: &Names,
+) -> Result<Option<Form>, AllocError>
     ensures { IfOk result (λ o. o ≡ (if among id (inner.now ++ names.now) then Some (scalar_form id) else None)) }
 {
     if may_occur(id, inner, names) {

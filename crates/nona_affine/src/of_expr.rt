@@ -11,7 +11,12 @@ use std::alloc::{AllocError, Global};
 
 /// The form of an expression in which the indices of some inner loops and some other scalars may occur, if it has one.
 #[tactic(auto, using(crate::proofs::FormEquations::form_laws))]
-pub fn form_inside(alloc: Global, e: &Expr, inner: &Ids, names: &Names) -> Result<Option<Form>, AllocError>
+pub fn form_inside(
+    alloc: Global,
+    e: &Expr,
+    inner: &Ids,
+    names: &Names,
+) -> Result<Option<Form>, AllocError>
     ensures { IfOk result (λ o. o ≡ form_of e.now (inner.now ++ names.now)) }
 {
     match e {
@@ -22,7 +27,10 @@ pub fn form_inside(alloc: Global, e: &Expr, inner: &Ids, names: &Names) -> Resul
             negated(alloc, inside)
         }
         Expr::Binary {
-            op, left, right, ..
+            op,
+            left,
+            right,
+            ..
         } => {
             let first = form_inside(alloc, left.get(), inner, names)?;
             let second = form_inside(alloc, right.get(), inner, names)?;

@@ -205,6 +205,12 @@ pub fn spots(alloc: Global, looped: &Loop) -> Result<Vec<Spot>, AllocError>
     let names = loop_names(alloc, looped)?;
     let mut around = Around::new(alloc);
     let mut spots = Vec::new(alloc);
-    push_all(alloc, looped.body.as_slice(), &names, &mut around, &mut spots)?;
+    push_all(
+        alloc,
+        looped.body.as_slice(),
+        &names,
+        &mut around,
+        &mut spots,
+    )?;
     Ok(spots)
 }

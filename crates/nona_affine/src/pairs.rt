@@ -9,8 +9,8 @@ ghost use Rattle.nona_forms.specs.Boxes.{sum_range, times_range};
 ghost use Rattle.nona_forms.specs.Verdicts.{is_empty, fixed_inner, divides, has_multiple, has_distance, is_outside, coefficient_of, range_in, some_empty, is_undivided, near_of, far_of, rest_range, whole_range, has_reason, inner_part, is_too_near, is_too_far, invariant_terms, same_terms, are_apart, if_form, is_apart, verdict_of};
 ghost use Rattle.nona_affine.specs.Small.{IsSmallRange};
 
-use crate::boxes::{fixed_bounds, inner_range, range_between, sum_range};
 use crate::arithmetic::{can_reach, coefficient, gcd, gcd_behind};
+use crate::boxes::{fixed_bounds, inner_range, range_between, sum_range};
 use nona_forms::{Form, InnerLoop, LoopShape, Spot, Term, Verdict};
 use nona_num::Range;
 
@@ -152,7 +152,13 @@ fn rest_range(left: Range, right: Range, number: i128) -> Range
 }
 
 /// Where both inner parts have ranges, no distance between iterations makes up for them and the difference.
-fn is_near(fixed: Option<(i64, i64)>, factor: i64, left: Option<Range>, right: Option<Range>, number: i128) -> bool
+fn is_near(
+    fixed: Option<(i64, i64)>,
+    factor: i64,
+    left: Option<Range>,
+    right: Option<Range>,
+    number: i128,
+) -> bool
     requires some { IsTrue (not (is_zero factor)) }
     requires factor { unsigned_abs factor ≤ 2 ^ 51 }
     requires left { IfSome left (IsSmallRange (2 ^ 115)) }
@@ -316,10 +322,7 @@ fn is_far(
             None => false,
             Some(left) => match right {
                 None => false,
-                Some(right) => is_outside(
-                    number,
-                    far_range(low, high, first, second, left, right),
-                ),
+                Some(right) => is_outside(number, far_range(low, high, first, second, left, right)),
             },
         },
     }

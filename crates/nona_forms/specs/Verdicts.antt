@@ -37,8 +37,14 @@ names_inside names (l ∷ inner) = names_inside (l.id ∷ names) inner
 -- an access as the test sees it
 abbrev pub spot_of : List ℕ → Reference → Spot
 spot_of names x =
-    record { array = x.access.array.id; at = x.access.array.at; wrap = x.access.wrap; write = x.write;
-    form = form_of x.access.index (names_inside names x.inner); inner = inner_forms names x.inner }
+    record {
+      array = x.access.array.id;
+      at = x.access.array.at;
+      wrap = x.access.wrap;
+      write = x.write;
+      form = form_of x.access.index (names_inside names x.inner);
+      inner = inner_forms names x.inner;
+    }
 
 abbrev pub shape_of : Loop → LoopShape
 shape_of l = record { index = l.index.id; fixed = fixed_of (form_of l.low (names_of l)) (form_of l.high (names_of l)) }
