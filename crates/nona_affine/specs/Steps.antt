@@ -1,5 +1,5 @@
 -- A step of the sum of a box range, and the ranges that a list of bounds gives.
-use Rattle.std.specs.Prelude.{◌≡◌, ℕ, ◌==◌, Bool, true, false, nat_lt, if◌then◌else◌, pos, List, [], ◌∷◌, Some, None, is_some}
+use Rattle.std.specs.Prelude.{◌≡◌, ℕ, ◌==◌, Bool, true, false, ◌&&◌, nat_lt, int_le, if◌then◌else◌, ℤ, pos, negsuc, List, [], ◌∷◌, Some, None, is_some}
 use Rattle.std.specs.declared.option.Option.{Option}
 use Rattle.nona_num.specs.declared.range.Range.{Range}
 use Rattle.nona_tree.specs.Numbers.{IsI64}
@@ -29,7 +29,15 @@ abbrev pub has_range : List (ℕ × Range) → ℕ → Bool
 has_range [] id = false
 has_range (b ∷ bounds) id = if b.0 == id then true else has_range bounds id
 
--- a list has a range for a term's scalar, whose ends have 64 bits
+-- whether a number is one of 64 bits
+abbrev pub is_i64 : ℤ → Bool
+is_i64 v = int_le (negsuc 9223372036854775807) v && int_le v (pos 9223372036854775807)
+
+-- whether a list has a range for a term's scalar, whose ends have 64 bits
+abbrev pub is_bound : List (ℕ × Range) → Term → Bool
+is_bound bounds t = has_range bounds t.id && (is_i64 (range_among bounds t.id).low && is_i64 (range_among bounds t.id).high)
+
+-- the same as a fact
 pub record IsBound (bounds : List (ℕ × Range)) (t : Term) : Type 0 where
   pub known : has_range bounds t.id ≡ true
   pub low : IsI64 (range_among bounds t.id).low

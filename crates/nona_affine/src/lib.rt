@@ -15,6 +15,6 @@ mod terms;
 
 pub use names::Names;
 pub use of_expr::form;
-pub use of_loop::{loop_names, spots};
+pub use of_loop::{loop_names, shape, spots};
 pub use pairs::apart;
-pub use ranges::range;
+pub use ranges::{are_bound, range};

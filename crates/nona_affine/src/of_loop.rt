@@ -3,15 +3,16 @@
 ghost use Rattle.std.specs.Prelude.{◌≡◌, ◌++◌, [], ◌∷◌, map, IfOk, OnOk};
 ghost use Rattle.nona_tree.specs.declared.trees.Stmt.{For};
 ghost use Rattle.nona_forms.specs.References.{expr_references, written_references, references, references_all, names_of};
-ghost use Rattle.nona_forms.specs.Verdicts.{spot_of};
+ghost use Rattle.nona_forms.specs.Verdicts.{spot_of, shape_of};
 ghost use Rattle.nona_affine.specs.Lists.{bare, spot_in};
 ghost use Rattle.nona_affine.specs.Spotted.{spots_in};
 
 use crate::around::Around;
 use crate::assigned::push_all_assigned;
+use crate::boxes::fixed_bounds;
 use crate::names::Names;
-use crate::of_expr::form_inside;
-use nona_forms::{InnerLoop, Spot};
+use crate::of_expr::{form, form_inside};
+use nona_forms::{InnerLoop, LoopShape, Spot};
 use nona_tree::{Access, Expr, Loop, Stmt};
 use sqlite_items::Items;
 use std::alloc::{AllocError, Global};
@@ -195,6 +196,20 @@ pub fn loop_names(alloc: Global, looped: &Loop) -> Result<Names, AllocError>
     let mut assigned = Vec::new(alloc);
     push_all_assigned(looped.body.as_slice(), &mut assigned)?;
     Names::of_loop(alloc, looped.index.id, assigned)
+}
+
+/// A loop as the dependence test sees it: its index, and its bounds where both have a form without terms. The one error is that
+/// memory ran out.
+pub fn shape(alloc: Global, looped: &Loop) -> Result<LoopShape, AllocError>
+    ensures { IfOk result (λ shape. shape ≡ shape_of looped.now) }
+{
+    let names = loop_names(alloc, looped)?;
+    let low = form(alloc, &looped.low, &names)?;
+    let high = form(alloc, &looped.high, &names)?;
+    Ok(LoopShape {
+        index: looped.index.id,
+        fixed: fixed_bounds(&low, &high),
+    })
 }
 
 /// The accesses of a loop's body in text order, each with the form of its index, where it has one, and the inner loops around

@@ -1,12 +1,13 @@
 //! Box ranges of forms.
 
-ghost use Rattle.std.specs.Prelude.{◌≡◌, ◌≤◌, ◌+◌, ◌*◌, ℕ, ◌^◌, length, All, IsTrue};
+ghost use Rattle.std.specs.Prelude.{◌≡◌, ◌≤◌, ◌+◌, ◌*◌, ℕ, ◌^◌, ◌&&◌, length, All, IsTrue};
+ghost use Rattle.std.specs.List.{list_all};
 ghost use Rattle.nona_forms.specs.Affine.{is_coefficient, is_constant};
 ghost use Rattle.nona_forms.specs.Boxes.{box, sum_range, times_range, point, form_range};
 ghost use Rattle.nona_forms.specs.declared.limits.TheConstants as limits;
 ghost use Rattle.nona_forms.specs.declared.terms.Term.{Term};
 ghost use Rattle.nona_affine.specs.Small.{IsSmallRange};
-ghost use Rattle.nona_affine.specs.Steps.{range_among, IsBound};
+ghost use Rattle.nona_affine.specs.Steps.{range_among, has_range, is_i64, is_bound, IsBound};
 
 use crate::boxes::add_times;
 use nona_forms::{Form, Term};
@@ -71,11 +72,52 @@ fn alone(number: i128) -> Range
     }
 }
 
+/// Whether a list has a range for a scalar.
+fn is_given(bounds: &[(u32, Range)], id: u32) -> bool
+    ensures { result ≡ has_range bounds.now id }
+{
+    for given in bounds {
+        if given.0 == id {
+            return true;
+        }
+    }
+    false
+}
+
+/// Whether a number is one of 64 bits.
+fn is_i64(number: i128) -> bool
+    ensures { result ≡ is_i64 number }
+{
+    i64::MIN as i128 <= number && number <= i64::MAX as i128
+}
+
+/// Whether both ends of a range are numbers of 64 bits.
+fn has_numbers(range: Range) -> bool
+    ensures { result ≡ (is_i64 range.low && is_i64 range.high) }
+{
+    is_i64(range.low) && is_i64(range.high)
+}
+
+/// Whether a list has a range for a term's scalar, whose ends are numbers of 64 bits.
+fn is_bound(bounds: &[(u32, Range)], term: Term) -> bool
+    ensures { result ≡ is_bound bounds.now term }
+{
+    is_given(bounds, term.id) && has_numbers(bound(bounds, term.id))
+}
+
+/// Whether a list has a range for each term's scalar of a form, whose ends are numbers of 64 bits.
+pub fn are_bound(form: &Form, bounds: &[(u32, Range)]) -> bool
+    ensures { result ≡ list_all (is_bound bounds.now) form.now.terms }
+{
+    form.terms().iter().all(|t| is_bound(bounds, *t))
+}
+
 /// The range of a form where each scalar has the range that a list gives it: from the sum of its terms' least values to the sum
-/// of their greatest. Each term's scalar has to have a range in the list, whose ends are numbers of 64 bits; the first one with
-/// its id counts. It takes no memory, and its sums are exact: with the bounds that a form keeps, none leaves an `i128`.
+/// of their greatest. Each term's scalar has to have a range in the list, whose ends are numbers of 64 bits, which `are_bound`
+/// tests; the first one with its id counts. It takes no memory, and its sums are exact: with the bounds that a form keeps, none
+/// leaves an `i128`.
 pub fn range(form: &Form, bounds: &[(u32, Range)]) -> Range
-    requires { All (IsBound bounds.now) form.now.terms }
+    requires { IsTrue (list_all (is_bound bounds.now) form.now.terms) }
     ensures { result ≡ form_range (range_among bounds.now) form.now }
 {
     terms_range(alone(form.constant()), form.terms(), bounds)
