@@ -5,7 +5,7 @@ use Rattle.nona_tree.specs.declared.trees.Stmt.{Stmt, Let, Set, Fold, Put, FoldP
 use Rattle.nona_tree.specs.Names.{Visible}
 use Rattle.nona_tree.specs.Seen.{Seen, is_seen, with_scalar, with_array, seen_after}
 use Rattle.nona_tree.specs.Smallness.{stmt_size}
-use Rattle.nona_check.specs.After.{seen_after_all, cut_to}
+use Rattle.nona_check.specs.After.{seen_after_all, narrowed_to}
 
 -- ---- how many
 
@@ -56,14 +56,14 @@ room_after (Print e at) seen = omega arith
 -- ---- after a block
 
 cut_in : (b : Bool) (count : ℕ) (seen : Seen) (v : Visible) → count ≤ length seen.scalars
-    → cut_to count (if b then seen else record seen { scalars = seen.scalars ++ v ∷ [] }) ≡ cut_to count seen
+    → narrowed_to count (if b then seen else record seen { scalars = seen.scalars ++ v ∷ [] }) ≡ narrowed_to count seen
 cut_in true count seen v h = refl
 cut_in false count seen v h = ap (λ vs. let r : Seen = record { scalars = vs; arrays = seen.arrays } in r) (take-append-le count seen.scalars (v ∷ []) h)
 
-cut_scalar : (name : List ℕ) (index : Bool) (count : ℕ) (seen : Seen) → count ≤ length seen.scalars → cut_to count (with_scalar name index seen) ≡ cut_to count seen
+cut_scalar : (name : List ℕ) (index : Bool) (count : ℕ) (seen : Seen) → count ≤ length seen.scalars → narrowed_to count (with_scalar name index seen) ≡ narrowed_to count seen
 cut_scalar name index count seen h = cut_in (is_seen name seen) count seen (record { name = name; index = index }) h
 
-cut_after : (s : Stmt) (count : ℕ) (seen : Seen) → count ≤ length seen.scalars → cut_to count (seen_after s seen) ≡ cut_to count seen
+cut_after : (s : Stmt) (count : ℕ) (seen : Seen) → count ≤ length seen.scalars → narrowed_to count (seen_after s seen) ≡ narrowed_to count seen
 cut_after (Let x e) count seen h = cut_scalar x.text false count seen h
 cut_after (Set x e) count seen h = refl
 cut_after (Fold x f e) count seen h = refl
@@ -89,17 +89,17 @@ grows_after (While' test p body at) seen = omega arith
 grows_after (For' x low high p body seq at) seen = omega arith
 grows_after (Print e at) seen = omega arith
 
-cut_all : (ss : List Stmt) (count : ℕ) (seen : Seen) → count ≤ length seen.scalars → cut_to count (seen_after_all ss seen) ≡ cut_to count seen
+cut_all : (ss : List Stmt) (count : ℕ) (seen : Seen) → count ≤ length seen.scalars → narrowed_to count (seen_after_all ss seen) ≡ narrowed_to count seen
 cut_all [] count seen h = refl
 cut_all (s ∷ ss) count seen h = cut_all ss count (seen_after s seen) (omega (arith, grows_after s seen)) ∙ cut_after s count seen h
 
-cut_same : (count : ℕ) (seen : Seen) → count ≡ length seen.scalars → cut_to count seen ≡ seen
+cut_same : (count : ℕ) (seen : Seen) → count ≡ length seen.scalars → narrowed_to count seen ≡ seen
 cut_same count seen h = ap (λ vs. let r : Seen = record { scalars = vs; arrays = seen.arrays } in r) (take_all count seen.scalars (omega arith))
 
 -- a block leaves visible what was visible before it
-pub block_leaves : (ss : List Stmt) (count : ℕ) (seen : Seen) → count ≡ length seen.scalars → cut_to count (seen_after_all ss seen) ≡ seen
+pub block_leaves : (ss : List Stmt) (count : ℕ) (seen : Seen) → count ≡ length seen.scalars → narrowed_to count (seen_after_all ss seen) ≡ seen
 block_leaves ss count seen h = cut_all ss count seen (omega arith) ∙ cut_same count seen h
 
 -- and so does a loop, whose index is visible in its body alone
-pub loop_leaves : (name : List ℕ) (index : Bool) (count : ℕ) (seen : Seen) → count ≡ length seen.scalars → cut_to count (with_scalar name index seen) ≡ seen
+pub loop_leaves : (name : List ℕ) (index : Bool) (count : ℕ) (seen : Seen) → count ≡ length seen.scalars → narrowed_to count (with_scalar name index seen) ≡ seen
 loop_leaves name index count seen h = cut_scalar name index count seen (omega arith) ∙ cut_same count seen h

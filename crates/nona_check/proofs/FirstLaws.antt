@@ -1,7 +1,8 @@
 -- What the first of several faults is.
-use Rattle.std.proofs.Common.{◌≡◌, ◌⊎◌, inl, inr, ⊎_elim, true, false, if◌then◌else◌, List, [], ◌∷◌, ◌++◌, Some, None, refl, sym, subst, ◌∙◌, arith}
-use Rattle.std.specs.Prelude.{Contains}
+use Rattle.std.proofs.Common.{◌≡◌, ◌⊎◌, inl, inr, ⊎_elim, true, false, if◌then◌else◌, List, [], ◌∷◌, ◌++◌, Some, None, Ok, Err, refl, sym, subst, ◌∙◌, arith}
+use Rattle.std.specs.Prelude.{Contains, OnOk}
 use Rattle.std.specs.declared.option.Option.{Option}
+use Rattle.std.specs.declared.result.Result.{Result}
 use Rattle.std.specs.List.{All}
 use Rattle.std.proofs.lemmas.Bool.{cases_Bool}
 use Rattle.std.proofs.lemmas.Bool.Decides.{nat_tests}
@@ -10,6 +11,11 @@ use Rattle.std.proofs.lemmas.List.Elements.{Contains-append_right, All-nil, All-
 use Rattle.nona_tree.specs.declared.faults.ProgramFault.{ProgramFault}
 use Rattle.nona_tree.specs.Faults.{IsNoLater}
 use Rattle.nona_check.specs.First.{is_before, earlier, first_from}
+
+-- what holds, holds where a result is Ok
+pub whenever : {T E : Type 0} (P : Type 0) (r : Result T E) → P → OnOk r P
+whenever P (Ok x) h = h
+whenever P (Err e) h = tt
 
 -- the first of one list of faults after another
 pub first_from-append : (kept : Option ProgramFault) (xs ys : List ProgramFault) → first_from kept (xs ++ ys) ≡ first_from (first_from kept xs) ys

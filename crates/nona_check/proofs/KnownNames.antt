@@ -20,7 +20,7 @@ use Rattle.std.proofs.lemmas.List.Folds.{list_any-append}
 use Rattle.std.proofs.lemmas.Slice.Eq.{bytes_eq-Decides}
 use Rattle.nona_tree.specs.Names.{Visible, id_of, is_index}
 use Rattle.nona_check.specs.declared.names.Known.{Known}
-use Rattle.nona_check.specs.Known.{words_of, known_of, at_name, Agrees, is_visible, AreDistinct}
+use Rattle.nona_check.specs.Known.{names_of, known_of, at_name, Agrees, is_visible, AreDistinct}
 
 -- ---- places
 
@@ -195,20 +195,20 @@ unseen name vs none = sym (seen name vs) ∙ ap is_some none
 
 -- ---- words alone
 
-words_from : (name : List ℕ) (i : ℕ) (vs : List Visible) → position_from (λ other. bytes_eq other name) i (words_of vs) ≡ position_from (λ v. bytes_eq v.name name) i vs
+words_from : (name : List ℕ) (i : ℕ) (vs : List Visible) → position_from (λ other. bytes_eq other name) i (names_of vs) ≡ position_from (λ v. bytes_eq v.name name) i vs
 words_from name i [] = refl
 words_from name i (v ∷ vs) = ap (λ o. cond (bytes_eq v.name name) (Some i) o) (words_from name (i + 1) vs)
 
 -- a name has the same id among the words alone
-pub id_in_words : (name : List ℕ) (vs : List Visible) → position (λ other. bytes_eq other name) (words_of vs) ≡ id_of name vs
-id_in_words name vs = place _ (words_of vs) ∙ words_from name 0 vs ∙ sym (place _ vs)
+pub id_in_words : (name : List ℕ) (vs : List Visible) → position (λ other. bytes_eq other name) (names_of vs) ≡ id_of name vs
+id_in_words name vs = place _ (names_of vs) ∙ words_from name 0 vs ∙ sym (place _ vs)
 
 no_id : (o : Option ℕ) → is_some o ≡ false → o ≡ None
 no_id None h = refl
 no_id (Some n) h = absurd (true≢false h)
 
 -- a name that isn't among the words has no id
-pub no_id_in_words : (name : List ℕ) (vs : List Visible) → is_some (position (λ other. bytes_eq other name) (words_of vs)) ≡ false → id_of name vs ≡ None
+pub no_id_in_words : (name : List ℕ) (vs : List Visible) → is_some (position (λ other. bytes_eq other name) (names_of vs)) ≡ false → id_of name vs ≡ None
 no_id_in_words name vs h = sym (id_in_words name vs) ∙ no_id _ h
 
 -- ---- the first names

@@ -3,6 +3,5 @@ pub mod CheckLaws
 pub mod FirstLaws
 pub mod KnownNames
 pub mod MergedLaws
-pub mod Pushed
 pub mod Steps
 pub mod StmtLaws

@@ -9,5 +9,5 @@ seen_after_all [] seen = seen
 seen_after_all (s ∷ rest) seen = seen_after_all rest (seen_after s seen)
 
 -- only the first scalars stay visible, so many
-abbrev pub cut_to : ℕ → Seen → Seen
-cut_to count seen = record seen { scalars = take count seen.scalars }
+abbrev pub narrowed_to : ℕ → Seen → Seen
+narrowed_to count seen = record seen { scalars = take count seen.scalars }

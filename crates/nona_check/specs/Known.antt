@@ -17,8 +17,8 @@ abbrev pub visible_of : List Declared → List Visible
 visible_of ds = map (λ (d : Declared). record { name = d.name; index = d.index }) ds
 
 -- their words alone
-abbrev pub words_of : List Visible → List (List ℕ)
-words_of vs = map (λ (v : Visible). v.name) vs
+abbrev pub names_of : List Visible → List (List ℕ)
+names_of vs = map (λ (v : Visible). v.name) vs
 
 -- what is known of a name: its id, and whether it is an index; nothing where it isn't visible
 abbrev pub known_of : List ℕ → List Visible → Option Known

@@ -1,22 +1,19 @@
 // The declarations at the head of a program.
 
-ghost use Rattle.std.specs.Prelude.{◌≡◌, ◌+◌, ◌<◌, ◌≤◌, ◌^◌, ◌++◌, false, length, drop, IfOk, OnOk};
+ghost use Rattle.std.specs.Prelude.{◌≡◌, ◌+◌, ◌<◌, ◌≤◌, ◌^◌, false, length, drop, IfOk, OnOk};
 ghost use Rattle.nona_tree.specs.Faults.{cells_faults, new_faults, declarations_faults};
 ghost use Rattle.nona_tree.specs.Ids.{arrays_ids, vars_ids};
 ghost use Rattle.nona_tree.specs.Run.{count_of};
 ghost use Rattle.nona_tree.specs.Seen.{array_decl, declarations, seen_behind_all, with_scalar, with_array};
 ghost use Rattle.nona_check.specs.First.{first_from};
-ghost use Rattle.nona_check.specs.Merged.{array_is_next};
+ghost use Rattle.nona_check.specs.Merged.{array_decl_faults, array_is_next};
 
 use crate::exprs::note_new;
 use crate::fault::note_where;
 use crate::scope::Scope;
-use nona_tree::{ArrayDecl, ProgramFault, VarDecl};
+use nona_tree::{ArrayDecl, CELLS, ProgramFault, VarDecl};
 use sqlite_items::Items;
 use std::alloc::{AllocError, Global};
-
-/// The most cells of all arrays together.
-const CELL_BOUND: u128 = 4_194_304;
 
 /// How many cells an array is declared with: none where its number is negative.
 fn count_cells(array: &ArrayDecl) -> u128
@@ -34,7 +31,7 @@ fn count_cells(array: &ArrayDecl) -> u128
 fn note_cells(first: &mut Option<ProgramFault>, array: &ArrayDecl, total: u128)
     ensures { first.new ≡ first_from first.old (cells_faults (array_decl array.now) total) }
 {
-    let wrong = array.cells <= 0 || total > CELL_BOUND;
+    let wrong = array.cells <= 0 || total > CELLS as u128;
     note_where(first, wrong, ProgramFault::Cells { at: array.cells_at });
 }
 
@@ -50,7 +47,7 @@ fn declare_array(
     requires room { length scope.old.arrays + 1 < 2 ^ 32 }
     ensures cells { IfOk result (λ total. total ≡ cells + count_of array.now.cells) }
     ensures most { IfOk result (λ total. total ≤ cells + 2 ^ 63) }
-    ensures faults { OnOk result (first.new ≡ first_from first.old (new_faults array.now.name scope.old ++ cells_faults (array_decl array.now) (cells + count_of array.now.cells))) }
+    ensures faults { OnOk result (first.new ≡ first_from first.old (array_decl_faults array.now scope.old cells)) }
     ensures seen { OnOk result (scope.new ≡ with_array array.now.name.text scope.old) }
 {
     note_new(first, &array.name, scope);

@@ -78,9 +78,114 @@ pub fn resolve_new(name: &Use, scope: &Scope, first: &mut Option<ProgramFault>) 
     name.with_id(scope.count())
 }
 
-/// An expression with its ids.
+/// A scalar with its id, in a box.
+#[inline(never)]
+fn boxed_scalar(
+    alloc: Global,
+    name: &Use,
+    scope: &Scope,
+    first: &mut Option<ProgramFault>,
+) -> Result<Boxed<Expr>, AllocError>
+    ensures ids { IfOk result (λ e. e ≡ Expr.Scalar (scalar_ids name.now scope.now)) }
+    ensures faults { OnOk result (first.new ≡ first_from first.old (scalar_faults name.now scope.now)) }
+{
+    Boxed::new(alloc, Expr::Scalar(resolve_scalar(name, scope, first)))
+}
+
+/// The length of an array with its id, in a box.
+#[inline(never)]
+fn boxed_length(
+    alloc: Global,
+    array: &Use,
+    scope: &Scope,
+    first: &mut Option<ProgramFault>,
+) -> Result<Boxed<Expr>, AllocError>
+    ensures ids { IfOk result (λ e. e ≡ Expr.Len (array_ids array.now scope.now)) }
+    ensures faults { OnOk result (first.new ≡ first_from first.old (array_faults array.now scope.now)) }
+{
+    Boxed::new(alloc, Expr::Len(resolve_array(array, scope, first)))
+}
+
+/// An expression with its ids, in a box. An expression may be some 4,096 levels deep: 64 brackets with 64 operators in
+/// each. So a level takes little of the stack here: what is large is in a function of its own.
 #[cycle(expr)]
 #[tactic(auto, using(crate::proofs::Steps::expr_steps))]
+fn resolve_boxed(
+    alloc: Global,
+    expr: &Expr,
+    scope: &Scope,
+    first: &mut Option<ProgramFault>,
+) -> Result<Boxed<Expr>, AllocError>
+    ensures ids { IfOk result (λ e. e ≡ expr_ids expr.now scope.now) }
+    ensures faults { OnOk result (first.new ≡ first_from first.old (expr_faults expr.now scope.now)) }
+{
+    match expr {
+        Expr::Number(value) => Expr::boxed_number(alloc, *value),
+        Expr::Scalar(name) => boxed_scalar(alloc, name, scope, first),
+        Expr::Cell(place) => boxed_cell(alloc, place.get(), scope, first),
+        Expr::Len(array) => boxed_length(alloc, array, scope, first),
+        Expr::Neg(value) => {
+            let value = resolve_boxed(alloc, value.get(), scope, first)?;
+            Expr::boxed_neg(alloc, value)
+        }
+        Expr::Not(value) => {
+            let value = resolve_boxed(alloc, value.get(), scope, first)?;
+            Expr::boxed_not(alloc, value)
+        }
+        Expr::Binary {
+            op,
+            at,
+            left,
+            right,
+        } => {
+            let left = resolve_boxed(alloc, left.get(), scope, first)?;
+            let right = resolve_boxed(alloc, right.get(), scope, first)?;
+            Expr::boxed_binary(alloc, *op, *at, left, right)
+        }
+    }
+}
+
+/// A cell that is read with its ids, in a box.
+#[inline(never)]
+#[cycle(expr)]
+#[tactic(auto, using(crate::proofs::Steps::expr_steps))]
+fn boxed_cell(
+    alloc: Global,
+    place: &Access,
+    scope: &Scope,
+    first: &mut Option<ProgramFault>,
+) -> Result<Boxed<Expr>, AllocError>
+    ensures ids { IfOk result (λ e. e ≡ Expr.Cell (access_ids place.now scope.now)) }
+    ensures faults { OnOk result (first.new ≡ first_from first.old (array_faults place.now.array scope.now ++ expr_faults place.now.index scope.now)) }
+{
+    let place = resolve_access(alloc, place, scope, first)?;
+    Boxed::new(alloc, Expr::Cell(place))
+}
+
+/// A cell with its ids, in a box.
+#[inline(never)]
+#[cycle(expr)]
+#[tactic(auto, using(crate::proofs::Steps::expr_steps))]
+fn resolve_access(
+    alloc: Global,
+    place: &Access,
+    scope: &Scope,
+    first: &mut Option<ProgramFault>,
+) -> Result<Boxed<Access>, AllocError>
+    ensures ids { IfOk result (λ c. c ≡ access_ids place.now scope.now) }
+    ensures faults { OnOk result (first.new ≡ first_from first.old (array_faults place.now.array scope.now ++ expr_faults place.now.index scope.now)) }
+{
+    let array = resolve_array(&place.array, scope, first);
+    let index = resolve_boxed(alloc, &place.index, scope, first)?;
+    let resolved = Access {
+        array,
+        wrap: place.wrap,
+        index: index.into_inner(),
+    };
+    Boxed::new(alloc, resolved)
+}
+
+/// An expression with its ids.
 pub fn resolve_expr(
     alloc: Global,
     expr: &Expr,
@@ -90,59 +195,8 @@ pub fn resolve_expr(
     ensures ids { IfOk result (λ e. e ≡ expr_ids expr.now scope.now) }
     ensures faults { OnOk result (first.new ≡ first_from first.old (expr_faults expr.now scope.now)) }
 {
-    match expr {
-        Expr::Number(value) => Ok(Expr::Number(*value)),
-        Expr::Scalar(name) => Ok(Expr::Scalar(resolve_scalar(name, scope, first))),
-        Expr::Cell(place) => {
-            let place = resolve_access(alloc, place.get(), scope, first)?;
-            Ok(Expr::Cell(Boxed::new(alloc, place)?))
-        }
-        Expr::Len(name) => Ok(Expr::Len(resolve_array(name, scope, first))),
-        Expr::Neg(value) => {
-            let value = resolve_expr(alloc, value.get(), scope, first)?;
-            Ok(Expr::Neg(Boxed::new(alloc, value)?))
-        }
-        Expr::Not(value) => {
-            let value = resolve_expr(alloc, value.get(), scope, first)?;
-            Ok(Expr::Not(Boxed::new(alloc, value)?))
-        }
-        Expr::Binary {
-            op,
-            at,
-            left,
-            right,
-        } => {
-            let left = resolve_expr(alloc, left.get(), scope, first)?;
-            let right = resolve_expr(alloc, right.get(), scope, first)?;
-            Ok(Expr::Binary {
-                op: *op,
-                at: *at,
-                left: Boxed::new(alloc, left)?,
-                right: Boxed::new(alloc, right)?,
-            })
-        }
-    }
-}
-
-/// A cell that is read, with its ids.
-#[cycle(expr)]
-#[tactic(auto, using(crate::proofs::Steps::expr_steps))]
-fn resolve_access(
-    alloc: Global,
-    place: &Access,
-    scope: &Scope,
-    first: &mut Option<ProgramFault>,
-) -> Result<Access, AllocError>
-    ensures ids { IfOk result (λ c. c ≡ access_ids place.now scope.now) }
-    ensures faults { OnOk result (first.new ≡ first_from first.old (array_faults place.now.array scope.now ++ expr_faults place.now.index scope.now)) }
-{
-    let array = resolve_array(&place.array, scope, first);
-    let index = resolve_expr(alloc, &place.index, scope, first)?;
-    Ok(Access {
-        array,
-        wrap: place.wrap,
-        index,
-    })
+    let resolved = resolve_boxed(alloc, expr, scope, first)?;
+    Ok(resolved.into_inner())
 }
 
 /// A cell that is written, with its ids.

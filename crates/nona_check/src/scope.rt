@@ -2,7 +2,7 @@ ghost use Rattle.std.specs.Prelude.{◌≡◌, ◌+◌, ◌<◌, ◌^◌, length
 ghost use Rattle.std.specs.Str.{bytes_eq};
 ghost use Rattle.nona_tree.specs.Names.{is_index};
 ghost use Rattle.nona_tree.specs.Seen.{input_name, seen_first, scalar_id, array_id, is_seen, with_scalar, with_array};
-ghost use Rattle.nona_check.specs.After.{cut_to};
+ghost use Rattle.nona_check.specs.After.{narrowed_to};
 
 use crate::names::Names;
 use nona_tree::Name;
@@ -34,11 +34,11 @@ pub struct Scope {
 
 impl Model for Scope {
     ghost use Rattle.nona_tree.specs.Seen.{Seen};
-    ghost use Rattle.nona_check.specs.Known.{words_of};
+    ghost use Rattle.nona_check.specs.Known.{names_of};
 
     ghost Value = { Seen };
 
-    ghost view = { λ s. record { scalars = s.scalars; arrays = words_of s.arrays } };
+    ghost view = { λ s. record { scalars = s.scalars; arrays = names_of s.arrays } };
 }
 
 impl Scope {
@@ -120,7 +120,7 @@ impl Scope {
 
     /// Only the first scalars stay visible, so many.
     pub fn cut(&mut self, count: u32)
-        ensures { self.new ≡ cut_to count self.old }
+        ensures { self.new ≡ narrowed_to count self.old }
     {
         self.scalars.cut(count);
     }

@@ -5,25 +5,22 @@ ghost use Rattle.nona_tree.specs.Faults.{units_faults, stmt_faults, all_faults};
 ghost use Rattle.nona_tree.specs.Ids.{stmt_ids, all_ids};
 ghost use Rattle.nona_tree.specs.Seen.{seen_after};
 ghost use Rattle.nona_tree.specs.Smallness.{stmt_size, all_size};
-ghost use Rattle.nona_tree.specs.declared.trees.Stmt.{Let, For};
 ghost use Rattle.nona_check.specs.After.{seen_after_all};
 ghost use Rattle.nona_check.specs.First.{first_from};
 
 use crate::exprs::{resolve_expr, resolve_new, resolve_place, resolve_target};
 use crate::fault::note_where;
 use crate::scope::Scope;
-use nona_tree::{Expr, Loop, ProgramFault, Stmt, Use};
+use nona_num::Fold;
+use nona_tree::{Access, Expr, Loop, ProgramFault, Stmt, UNITS, Use};
 use sqlite_items::Items;
 use std::alloc::{AllocError, Global};
-
-/// The most statements at the top of a loop's body.
-const UNIT_BOUND: usize = 64;
 
 /// Takes the number of a loop's units into account.
 fn note_units(first: &mut Option<ProgramFault>, seq: bool, count: usize, at: u32)
     ensures { first.new ≡ first_from first.old (units_faults seq count at) }
 {
-    let too_many = !seq && count > UNIT_BOUND;
+    let too_many = !seq && count > UNITS;
     note_where(first, too_many, ProgramFault::Units { at });
 }
 
@@ -36,9 +33,9 @@ fn resolve_let(
     first: &mut Option<ProgramFault>,
 ) -> Result<Stmt, AllocError>
     requires { length scope.old.scalars + 1 < 2 ^ 32 }
-    ensures ids { IfOk result (λ s. s ≡ stmt_ids (Let name.now value.now) scope.old) }
-    ensures faults { OnOk result (first.new ≡ first_from first.old (stmt_faults (Let name.now value.now) scope.old)) }
-    ensures seen { OnOk result (scope.new ≡ seen_after (Let name.now value.now) scope.old) }
+    ensures ids { IfOk result (λ s. s ≡ stmt_ids (Stmt.Let name.now value.now) scope.old) }
+    ensures faults { OnOk result (first.new ≡ first_from first.old (stmt_faults (Stmt.Let name.now value.now) scope.old)) }
+    ensures seen { OnOk result (scope.new ≡ seen_after (Stmt.Let name.now value.now) scope.old) }
 {
     let resolved = resolve_new(name, scope, first);
     let value = resolve_expr(alloc, value, scope, first)?;
@@ -46,6 +43,97 @@ fn resolve_let(
     Ok(Stmt::Let {
         name: resolved,
         value,
+    })
+}
+
+/// `name = value;` with its ids.
+fn resolve_set(
+    alloc: Global,
+    name: &Use,
+    value: &Expr,
+    scope: &Scope,
+    first: &mut Option<ProgramFault>,
+) -> Result<Stmt, AllocError>
+    ensures ids { IfOk result (λ s. s ≡ stmt_ids (Stmt.Set name.now value.now) scope.now) }
+    ensures faults { OnOk result (first.new ≡ first_from first.old (stmt_faults (Stmt.Set name.now value.now) scope.now)) }
+{
+    Ok(Stmt::Set {
+        name: resolve_target(name, scope, first),
+        value: resolve_expr(alloc, value, scope, first)?,
+    })
+}
+
+/// `name op= value;` with its ids.
+fn resolve_fold(
+    alloc: Global,
+    name: &Use,
+    fold: Fold,
+    value: &Expr,
+    scope: &Scope,
+    first: &mut Option<ProgramFault>,
+) -> Result<Stmt, AllocError>
+    ensures ids { IfOk result (λ s. s ≡ stmt_ids (Stmt.Fold name.now fold value.now) scope.now) }
+    ensures faults { OnOk result (first.new ≡ first_from first.old (stmt_faults (Stmt.Fold name.now fold value.now) scope.now)) }
+{
+    Ok(Stmt::Fold {
+        name: resolve_target(name, scope, first),
+        fold,
+        value: resolve_expr(alloc, value, scope, first)?,
+    })
+}
+
+/// `array[index] = value;` with its ids.
+#[tactic(auto, using(crate::proofs::Steps::stmt_steps))]
+fn resolve_put(
+    alloc: Global,
+    place: &Access,
+    value: &Expr,
+    scope: &Scope,
+    first: &mut Option<ProgramFault>,
+) -> Result<Stmt, AllocError>
+    ensures ids { IfOk result (λ s. s ≡ stmt_ids (Stmt.Put place.now value.now) scope.now) }
+    ensures faults { OnOk result (first.new ≡ first_from first.old (stmt_faults (Stmt.Put place.now value.now) scope.now)) }
+{
+    Ok(Stmt::Put {
+        place: resolve_place(alloc, place, scope, first)?,
+        value: resolve_expr(alloc, value, scope, first)?,
+    })
+}
+
+/// `array[index] op= value;` with its ids.
+#[tactic(auto, using(crate::proofs::Steps::stmt_steps))]
+fn resolve_fold_put(
+    alloc: Global,
+    place: &Access,
+    fold: Fold,
+    value: &Expr,
+    scope: &Scope,
+    first: &mut Option<ProgramFault>,
+) -> Result<Stmt, AllocError>
+    ensures ids { IfOk result (λ s. s ≡ stmt_ids (Stmt.FoldPut place.now fold value.now) scope.now) }
+    ensures faults { OnOk result (first.new ≡ first_from first.old (stmt_faults (Stmt.FoldPut place.now fold value.now) scope.now)) }
+{
+    Ok(Stmt::FoldPut {
+        place: resolve_place(alloc, place, scope, first)?,
+        fold,
+        value: resolve_expr(alloc, value, scope, first)?,
+    })
+}
+
+/// `print value;` with its ids.
+fn resolve_print(
+    alloc: Global,
+    value: &Expr,
+    at: u32,
+    scope: &Scope,
+    first: &mut Option<ProgramFault>,
+) -> Result<Stmt, AllocError>
+    ensures ids { IfOk result (λ s. s ≡ stmt_ids (Stmt.Print value.now at) scope.now) }
+    ensures faults { OnOk result (first.new ≡ first_from first.old (stmt_faults (Stmt.Print value.now at) scope.now)) }
+{
+    Ok(Stmt::Print {
+        value: resolve_expr(alloc, value, scope, first)?,
+        at,
     })
 }
 
@@ -65,24 +153,12 @@ fn resolve_stmt(
 {
     match stmt {
         Stmt::Let { name, value } => resolve_let(alloc, name, value, scope, first),
-        Stmt::Set { name, value } => Ok(Stmt::Set {
-            name: resolve_target(name, scope, first),
-            value: resolve_expr(alloc, value, scope, first)?,
-        }),
-        Stmt::Fold { name, fold, value } => Ok(Stmt::Fold {
-            name: resolve_target(name, scope, first),
-            fold: *fold,
-            value: resolve_expr(alloc, value, scope, first)?,
-        }),
-        Stmt::Put { place, value } => Ok(Stmt::Put {
-            place: resolve_place(alloc, place, scope, first)?,
-            value: resolve_expr(alloc, value, scope, first)?,
-        }),
-        Stmt::FoldPut { place, fold, value } => Ok(Stmt::FoldPut {
-            place: resolve_place(alloc, place, scope, first)?,
-            fold: *fold,
-            value: resolve_expr(alloc, value, scope, first)?,
-        }),
+        Stmt::Set { name, value } => resolve_set(alloc, name, value, scope, first),
+        Stmt::Fold { name, fold, value } => resolve_fold(alloc, name, *fold, value, scope, first),
+        Stmt::Put { place, value } => resolve_put(alloc, place, value, scope, first),
+        Stmt::FoldPut { place, fold, value } => {
+            resolve_fold_put(alloc, place, *fold, value, scope, first)
+        }
         Stmt::If { test, yes, no } => Ok(Stmt::If {
             test: resolve_expr(alloc, test, scope, first)?,
             yes: resolve_block(alloc, yes.as_slice(), scope, first)?,
@@ -94,10 +170,7 @@ fn resolve_stmt(
             at: *at,
         }),
         Stmt::For(l) => resolve_loop(alloc, l, scope, first),
-        Stmt::Print { value, at } => Ok(Stmt::Print {
-            value: resolve_expr(alloc, value, scope, first)?,
-            at: *at,
-        }),
+        Stmt::Print { value, at } => resolve_print(alloc, value, *at, scope, first),
     }
 }
 
@@ -110,9 +183,9 @@ fn resolve_loop(
     scope: &mut Scope,
     first: &mut Option<ProgramFault>,
 ) -> Result<Stmt, AllocError>
-    requires { length scope.old.scalars + stmt_size (For l.now) < 2 ^ 32 }
-    ensures ids { IfOk result (λ s. s ≡ stmt_ids (For l.now) scope.old) }
-    ensures faults { OnOk result (first.new ≡ first_from first.old (stmt_faults (For l.now) scope.old)) }
+    requires { length scope.old.scalars + stmt_size (Stmt.For l.now) < 2 ^ 32 }
+    ensures ids { IfOk result (λ s. s ≡ stmt_ids (Stmt.For l.now) scope.old) }
+    ensures faults { OnOk result (first.new ≡ first_from first.old (stmt_faults (Stmt.For l.now) scope.old)) }
     ensures seen { OnOk result (scope.new ≡ scope.old) }
 {
     note_units(first, l.seq, l.body.len(), l.at);

@@ -16,8 +16,8 @@ use Rattle.nona_tree.specs.declared.trees.Expr.TheVariants as expr
 use Rattle.nona_grammar.specs.Levels.{sign, named, written, op_of, joining, level, loosest, comparisons}
 use Rattle.nona_grammar.specs.Stack.{Trees, Leaf, Negate, Invert, Join, Reach, Fetch, act, push}
 use Rattle.nona_grammar.specs.Machine
-use Rattle.nona_grammar.specs.Machine.{Sym, Do, Want, Index, Whole, Compare, Level, Tail, Primary, MaybeCell, choice, behind, joins, tail, compares, compare, maybe_cell, chosen, after, build}
-use Rattle.nona_grammar.specs.Grammar.{IsPrimary, IsIndex, IsLevel, IsExpr, place-is, plain-is, wrap-is, number-is, scalar-is, cell-is, len-is, brackets-are, primary-is, negated-is, inverted-is, lower-is, joined-is, level-is, compared-is}
+use Rattle.nona_grammar.specs.Machine.{Sym, Do, Want, Index, Whole, Compare, Level, Tail, Primary, MaybeCell, choice, behind, joins, tail, compares, compare, maybe_cell, expanded, behind_step, build}
+use Rattle.nona_grammar.specs.Grammar.{IsPrimary, IsIndex, IsLevel, IsExpr, indexed-is, plain-is, wrap-is, number-is, scalar-is, cell-is, len-is, brackets-are, primary-is, negated-is, inverted-is, lower-is, joined-is, level-is, compared-is}
 use Rattle.nona_grammar.proofs.Machining.{took, passed, acted, behind_chosen, level_is, whole_is}
 
 -- ---- what may stand behind an expression
@@ -177,7 +177,7 @@ Unwrapped (x ∷ ss) = UnwrappedToken x.token
 primary_first : {ss rest : List Spot} {e : Expr} → IsPrimary ss rest e → Plain ss × Unwrapped ss
 primary_first (number-is n a rest) = (tt, tt)
 primary_first (scalar-is n a rest) = (tt, tt)
-primary_first (cell-is ss rest p (place-is n a b c ss' rest' wrap e i)) = (tt, tt)
+primary_first (cell-is ss rest p (indexed-is n a b c ss' rest' wrap e i)) = (tt, tt)
 primary_first (len-is n a b c d rest) = (tt, tt)
 primary_first (brackets-are a b ss rest e d) = (tt, tt)
 
@@ -203,7 +203,7 @@ unary_plain _ at p = refl
 -- and so is level 0
 pub level_zero : (end : ℕ) (k : List Sym) (v : Trees) (ss : List Spot) → Plain ss → build end (Level zero ∷ k) v ss ≡ build end (Primary ∷ k) v ss
 level_zero end k v [] p = refl
-level_zero end k v (x ∷ ss) p = ap (λ o. after (chosen o k v None) x.at (λ l u. build end l u ss)) (unary_plain x.token x.at p)
+level_zero end k v (x ∷ ss) p = ap (λ o. behind_step (expanded o k v None) x.at (λ l u. build end l u ss)) (unary_plain x.token x.at p)
 
 -- where no `wrap` stands, an index is an expression
 pub index_plain : (n : List ℕ) (a : ℕ) (t : Token) (at : ℕ) → UnwrappedToken t
@@ -216,8 +216,8 @@ pub index_is : (end : ℕ) (n : List ℕ) (a : ℕ) (k : List Sym) (v : Trees) (
     → build end (Index n a ∷ k) v ss ≡ build end (Whole ∷ Do (Reach (named n a) false) ∷ k) v ss
 index_is end n a k v [] p = refl
 index_is end n a k v (x ∷ ss) p =
-    ap (λ o. after o x.at (λ l u. build end l u ss))
-    (ap (λ o. chosen o k v None) (index_plain n a x.token x.at p) ∙ behind_chosen (Machine.whole x.token x.at) (Do (Reach (named n a) false)) k v)
+    ap (λ o. behind_step o x.at (λ l u. build end l u ss))
+    (ap (λ o. expanded o k v None) (index_plain n a x.token x.at p) ∙ behind_chosen (Machine.whole x.token x.at) (Do (Reach (named n a) false)) k v)
 
 -- ---- expressions
 
@@ -227,7 +227,7 @@ mutual
       → build end (Primary ∷ k) v ss ≡ build end k (push e v) rest
   primary_built (number-is n a rest) end k v c = acted end (Leaf (expr.Number n)) k v rest
   primary_built (scalar-is n a rest) end k v c = past_cell end n a zero k v rest c
-  primary_built (cell-is ss rest p (place-is n a b d ss' rest' wrap e i)) end k v c =
+  primary_built (cell-is ss rest p (indexed-is n a b d ss' rest' wrap e i)) end k v c =
       index_built i end n a (Want s.CloseIndex ∷ Do Fetch ∷ k) v tt ∙ acted end Fetch k (act (Reach (named n a) wrap) (push e v)) rest
   primary_built (len-is n a b d f rest) end k v c = acted end (Leaf (expr.Len (named n d))) (Want s.Close ∷ k) v (sign s.Close f ∷ rest)
   primary_built (brackets-are a b ss rest e d) end k v c = expr_built d end (Want s.Close ∷ k) v tt

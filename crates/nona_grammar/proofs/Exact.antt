@@ -12,9 +12,9 @@ use Rattle.nona_lex.specs.declared.tokens.Spot.{Spot}
 use Rattle.nona_tree.specs.declared.trees.Expr.{Expr}
 use Rattle.nona_tree.specs.declared.trees.Expr.TheVariants as expr
 use Rattle.nona_grammar.specs.Levels.{word, sign, name, number, named, loosest}
-use Rattle.nona_grammar.specs.Stack.{Trees, Act, Leaf, Bind, Assign, Store, Each, Array, Var, act, push, block, empty, whole_of}
+use Rattle.nona_grammar.specs.Stack.{Trees, Act, Leaf, Bind, Assign, Store, Each, Array, Var, act, push, with_block, empty, whole_of}
 use Rattle.nona_grammar.specs.Machine
-use Rattle.nona_grammar.specs.Machine.{Sym, Do, Want, In, Decls, ArrayName, CellsOpen, Cells, VarName, Init, InitNumber, Stmts, Statement, LetName, AfterName, AfterCell, Else, ForWord, ForName, Block, Index, Whole, Compare, Level, Tail, Primary, MaybeCell, LenOpen, LenName, sign_code, choice, optional, skip, past, step, finish, after, build}
+use Rattle.nona_grammar.specs.Machine.{Sym, Do, Want, In, Decls, ArrayName, CellsOpen, Cells, VarName, Init, InitNumber, Stmts, Statement, LetName, AfterName, AfterCell, Else, ForWord, ForName, Block, Index, Whole, Compare, Level, Tail, Primary, MaybeCell, LenOpen, LenName, sign_code, choice, optional, skip, past, step, finish, behind_step, build}
 use Rattle.nona_grammar.specs.Grammar.{IsLevel, IsExpr, IsBlock, plain-is, number-is, primary-is, lower-is, level-is, print-is, block-is, no-more}
 use Rattle.nona_grammar.specs.Faults.{FirstFault, IsText, FaultAt}
 use Rattle.nona_grammar.proofs.Machining.{took, passed, acted}
@@ -198,13 +198,13 @@ zero_array n a = Array (array_of n a (pos 0, 0))
 
 -- a loop behind the word `for` is read
 looped : (end : ℕ) (seq : Bool) (a : ℕ) (k : List Sym) (v : Trees) (later : List Spot)
-    → build end (ForName seq a ∷ k) v (loop_to later) ≡ build end k (act (Each (named [] 0) seq a) (block [] (push nought (push nought v)))) later
+    → build end (ForName seq a ∷ k) v (loop_to later) ≡ build end k (act (Each (named [] 0) seq a) (with_block [] (push nought (push nought v)))) later
 looped end seq a k v later =
     let each = Each (named [] 0) seq a in
     let bounds : Trees = push nought (push nought v) in
     expr_built (zero_expr (sign s.Range 0 ∷ zero_to (no_stmts_to later))) end (Want s.Range ∷ Whole ∷ Block ∷ Do each ∷ k) v tt
     ∙ expr_built (zero_expr (no_stmts_to later)) end (Block ∷ Do each ∷ k) (push nought v) tt
-    ∙ block_built (no_block later) end (Do each ∷ k) bounds ∙ acted end each k (block [] bounds) later
+    ∙ block_built (no_block later) end (Do each ∷ k) bounds ∙ acted end each k (with_block [] bounds) later
 
 -- an expression and what is made of it are read
 made : (end : ℕ) (a : Act) (k : List Sym) (v : Trees) (later : List Spot)
@@ -274,7 +274,7 @@ not_both r x y e f = cc
 -- a token that is taken is taken before whatever comes then
 one : (end : ℕ) (k : List Sym) (v : Trees) (s : Spot) (x : List Sym × Trees) → step k v s ≡ Some x
     → (ss : List Spot) → build end k v (s ∷ ss) ≡ build end x.0 x.1 ss
-one end k v s x e ss = ap (λ o. after o s.at (λ l u. build end l u ss)) e
+one end k v s x e ss = ap (λ o. behind_step o s.at (λ l u. build end l u ss)) e
 
 -- a fault behind a token that is taken
 fault_behind : (end : ℕ) (k : List Sym) (v : Trees) (s : Spot) (ss : List Spot) (at : ℕ) (x : List Sym × Trees) → step k v s ≡ Some x
@@ -295,7 +295,7 @@ fault_behind end k v s ss at x e (inr (place, ((more, ok), no'))) =
 -- the first fault is at the first token, where no step is for it, or else behind it
 by_step : (end : ℕ) (k : List Sym) (v : Trees) (s : Spot) (ss : List Spot) (at : ℕ) (o : Option (List Sym × Trees)) → Kept k → step k v s ≡ o
     → ((x : List Sym × Trees) → o ≡ Some x → build end x.0 x.1 ss ≡ Err at → FirstFault (Accepts end x.0 x.1) end ss at)
-    → after o s.at (λ l u. build end l u ss) ≡ Err at → FirstFault (Accepts end k v) end (s ∷ ss) at
+    → behind_step o s.at (λ l u. build end l u ss) ≡ Err at → FirstFault (Accepts end k v) end (s ∷ ss) at
 by_step end k v s ss at None kept e behind' h =
     inl (
       [],
@@ -304,7 +304,7 @@ by_step end k v s ss at None kept e behind' h =
       refl,
       cc,
       (completion k, completes end k v kept),
-      λ g. not_both (build end k v (s ∷ g.0)) g.1.0 s.at g.1.1 (ap (λ o. after o s.at (λ l u. build end l u g.0)) e),
+      λ g. not_both (build end k v (s ∷ g.0)) g.1.0 s.at g.1.1 (ap (λ o. behind_step o s.at (λ l u. build end l u g.0)) e),
     )
 by_step end k v s ss at (Some x) kept e behind' h = fault_behind end k v s ss at x e (behind' x refl h)
 

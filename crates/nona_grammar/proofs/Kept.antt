@@ -12,7 +12,7 @@ use Rattle.nona_tree.specs.declared.trees.Op.{Op}
 use Rattle.nona_grammar.specs.Levels.{named, op_of, level, loosest, comparisons}
 use Rattle.nona_grammar.specs.Stack.{Trees, Join, Reach}
 use Rattle.nona_grammar.specs.Machine
-use Rattle.nona_grammar.specs.Machine.{Sym, Do, Want, In, Decls, ArrayName, CellsOpen, Cells, VarName, Init, InitNumber, Stmts, Statement, LetName, AfterName, AfterCell, Else, ForWord, ForName, Block, Index, Whole, Compare, Level, Tail, Primary, MaybeCell, LenOpen, LenName, sign_code, behind, choice, level_next, next, optional, skip, past, chosen, step}
+use Rattle.nona_grammar.specs.Machine.{Sym, Do, Want, In, Decls, ArrayName, CellsOpen, Cells, VarName, Init, InitNumber, Stmts, Statement, LetName, AfterName, AfterCell, Else, ForWord, ForName, Block, Index, Whole, Compare, Level, Tail, Primary, MaybeCell, LenOpen, LenName, sign_code, behind, choice, level_next, next, optional, skip, past, expanded, step}
 
 -- what is known where a symbol may stand behind others: not those whose text begins as a statement or an index does, or with a name
 abbrev pub Mild : Sym → Type 0 → Type 0
@@ -299,7 +299,7 @@ kept_past false o h = tt
 
 -- a step by a symbol's token, or by those behind it
 kept_chosen : (o : Option (List Sym)) (k : List Sym) (v : Trees) (other : Option (List Sym × Trees))
-    → KeptIf o → AllMild k → LeftKept other → LeftKept (chosen o k v other)
+    → KeptIf o → AllMild k → LeftKept other → LeftKept (expanded o k v other)
 kept_chosen None k v other n h g = g
 kept_chosen (Some new) k v other n h g = kept_append new k n h
 

@@ -8,3 +8,4 @@ pub mod Kept
 pub mod Exact
 pub mod Sizes
 pub mod Nesting
+pub mod ProgramNumbers

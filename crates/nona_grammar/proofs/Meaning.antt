@@ -12,9 +12,9 @@ use Rattle.nona_tree.specs.declared.trees.Stmt.TheVariants as stmt
 use Rattle.nona_tree.specs.declared.trees.ArrayDecl.{ArrayDecl}
 use Rattle.nona_tree.specs.declared.trees.VarDecl.{VarDecl}
 use Rattle.nona_grammar.specs.Levels.{word, sign, name, number, named, loosest}
-use Rattle.nona_grammar.specs.Stack.{Trees, Reach, Store, Branch, Array, Var, act, push, block, adds, one_of, put}
+use Rattle.nona_grammar.specs.Stack.{Trees, Reach, Store, Branch, Array, Var, act, push, with_block, adds, one_of, put}
 use Rattle.nona_grammar.specs.Machine.{Sym, Do, Want, In, Decls, ArrayName, CellsOpen, Cells, VarName, Init, InitNumber, Stmts, Statement, LetName, AfterName, AfterCell, Else, ForWord, ForName, Block, Index, Whole, Compare, Level, Tail, Primary, MaybeCell, LenOpen, LenName, behind}
-use Rattle.nona_grammar.specs.Grammar.{IsPlace, IsIndex, IsPrimary, IsLevel, IsExpr, IsStmt, IsLoop, IsBlock, IsElse, IsStmts, IsDecls}
+use Rattle.nona_grammar.specs.Grammar.{IsCell, IsIndex, IsPrimary, IsLevel, IsExpr, IsStmt, IsLoop, IsBlock, IsElse, IsStmts, IsDecls}
 
 -- what holds of the trees and of the tokens that are left
 abbrev pub Then : Type 1
@@ -54,7 +54,7 @@ IsCompared ss rest f = (before : List Spot) (a : Expr) → IsLevel loosest befor
 
 -- what makes an assignment to a cell, or what a fold makes of it, of the place before the tokens
 abbrev IsStored : List Spot → List Spot → Option Fold × Expr → Type 0
-IsStored ss rest x = (before : List Spot) (p : Access) → IsPlace before ss p → IsStmt before rest (put x.0 p x.1)
+IsStored ss rest x = (before : List Spot) (p : Access) → IsCell before ss p → IsStmt before rest (put x.0 p x.1)
 
 -- what makes a declaration, behind such tokens, of the tokens
 abbrev IsArray : (List Spot → List Spot) → List Spot → List Spot → ArrayDecl → Type 0
@@ -92,10 +92,10 @@ Means Statement v ss q = Reads IsStmt (λ x. adds (x ∷ [])) v ss q
 Means LetName v ss q = Reads (λ l rest x. (a : ℕ) → IsStmt (word w.Let a ∷ l) rest x) (λ x. adds (x ∷ [])) v ss q
 Means (AfterName n at) v ss q = Reads (λ l rest x. IsStmt (name n at ∷ l) rest x) (λ x. adds (x ∷ [])) v ss q
 Means AfterCell v ss q = Reads IsStored (λ x u. act (Store x.0) (push x.1 u)) v ss q
-Means Else v ss q = Reads IsElse (λ l u. act Branch (block l u)) v ss q
+Means Else v ss q = Reads IsElse (λ l u. act Branch (with_block l u)) v ss q
 Means ForWord v ss q = Reads (λ l rest x. IsLoop l rest true x) (λ x. adds (stmt.For x ∷ [])) v ss q
 Means (ForName seq at) v ss q = Reads (λ l rest x. IsLoop (word w.For at ∷ l) rest seq x) (λ x. adds (stmt.For x ∷ [])) v ss q
-Means Block v ss q = Reads IsBlock block v ss q
+Means Block v ss q = Reads IsBlock with_block v ss q
 Means (Index n at) v ss q =
     Reads (λ l rest x. IsIndex l rest x.0 x.1) (λ (x : Bool × Expr) u. act (Reach (named n at) x.0) (push x.1 u)) v ss q
 Means Whole v ss q = Reads IsExpr push v ss q

@@ -10,7 +10,8 @@ use Rattle.nona_lex.specs.declared.tokens.Token.TheVariants as token
 use Rattle.nona_lex.specs.declared.tokens.Spot.{Spot}
 use Rattle.nona_lex.specs.declared.tokens.Cut.{Cut}
 use Rattle.nona_lex.specs.declared.tokens.Tokens.{Tokens}
-use Rattle.nona_lex.specs.Bounds.{Counts, no_counts, bracket_bound, opened, closed_to, behind_sign, behind_token, admitted, bounded_from, bounded}
+use Rattle.nona_lex.specs.declared.bounds.TheConstants.{BRACKETS}
+use Rattle.nona_lex.specs.Bounds.{Counts, no_counts, behind_opening, closed_to, behind_sign, behind_token, admitted, bounded_from, bounded}
 use Rattle.nona_tree.specs.declared.trees.Access.{Access}
 use Rattle.nona_tree.specs.declared.trees.Expr.{Expr}
 use Rattle.nona_tree.specs.declared.trees.Loop.{Loop}
@@ -21,7 +22,7 @@ use Rattle.nona_tree.specs.declared.trees.VarDecl.{VarDecl}
 use Rattle.nona_tree.specs.declared.trees.Program.{Program}
 use Rattle.nona_tree.specs.Smallness.{stmt_nesting, all_nesting, nesting_of}
 use Rattle.nona_tree.proofs.CheckEquations.{nesting-If, nesting-While, nesting-For}
-use Rattle.nona_grammar.specs.Grammar.{IsPlace, IsIndex, IsPrimary, IsLevel, IsExpr, IsStmt, IsLoop, IsBlock, IsElse, IsStmts, IsDecls, IsProgram, place-is, plain-is, wrap-is, number-is, scalar-is, cell-is, len-is, brackets-are, primary-is, negated-is, inverted-is, lower-is, joined-is, level-is, compared-is, let-is, set-is, fold-is, put-is, fold-put-is, if-is, while-is, for-is, seq-for-is, print-is, loop-is, block-is, no-else, else-is, no-more, one-more, no-decl, array-is, var-is, var-value-is}
+use Rattle.nona_grammar.specs.Grammar.{IsCell, IsIndex, IsPrimary, IsLevel, IsExpr, IsStmt, IsLoop, IsBlock, IsElse, IsStmts, IsDecls, IsProgram, indexed-is, plain-is, wrap-is, number-is, scalar-is, cell-is, len-is, brackets-are, primary-is, negated-is, inverted-is, lower-is, joined-is, level-is, compared-is, let-is, set-is, fold-is, put-is, fold-put-is, if-is, while-is, for-is, seq-for-is, print-is, loop-is, block-is, no-else, else-is, no-more, one-more, no-decl, array-is, var-is, var-value-is}
 
 -- ---- brackets
 
@@ -32,9 +33,9 @@ closing (suc n) = n
 
 -- what holds of a sign where n brackets are open: one more may be, if it opens one, and the rest holds of as many as are open behind it
 abbrev AtSign : Sign → ℕ → (ℕ → Type 0) → Type 0
-AtSign s.Open n later = (suc n ≤ bracket_bound) × later (suc n)
-AtSign s.OpenIndex n later = (suc n ≤ bracket_bound) × later (suc n)
-AtSign s.OpenBlock n later = (suc n ≤ bracket_bound) × later (suc n)
+AtSign s.Open n later = (suc n ≤ BRACKETS) × later (suc n)
+AtSign s.OpenIndex n later = (suc n ≤ BRACKETS) × later (suc n)
+AtSign s.OpenBlock n later = (suc n ≤ BRACKETS) × later (suc n)
 AtSign s.Close n later = later (closing n)
 AtSign s.CloseIndex n later = later (closing n)
 AtSign s.CloseBlock n later = later (closing n)
@@ -58,11 +59,11 @@ some_if true x d e = (refl, cc)
 some_if false x d e = absurd (cc)
 
 -- where one more bracket may be open, it is the newest
-one_opened : (c d : Counts) (P : ℕ → Type 0) → opened c ≡ Some d → P (length d.outside) → (suc (length c.outside) ≤ bracket_bound) × P (suc (length c.outside))
+one_opened : (c d : Counts) (P : ℕ → Type 0) → behind_opening c ≡ Some d → P (length d.outside) → (suc (length c.outside) ≤ BRACKETS) × P (suc (length c.outside))
 one_opened c d P e h =
     let o : Counts = record { operators = 0; outside = c.operators ∷ c.outside } in
-    let r = some_if (nat_lt (length c.outside) bracket_bound) o d e in
-    let below : length c.outside < bracket_bound = ltb-true (length c.outside) bracket_bound r.0 in
+    let r = some_if (nat_lt (length c.outside) BRACKETS) o d e in
+    let below : length c.outside < BRACKETS = ltb-true (length c.outside) BRACKETS r.0 in
     (omega (arith, below), subst (λ (u : Counts). P (length u.outside)) (sym r.1) h)
 
 -- where one is closed, the others are left
@@ -112,8 +113,8 @@ shallow_bounded c (x ∷ ss) cut = shallow_admitted (behind_token x.token c) x c
 
 mutual
   -- behind a place as many brackets are open as before it
-  place_shallow : {ss rest : List Spot} {p : Access} → IsPlace ss rest p → (n : ℕ) → IsShallow n ss → IsShallow n rest
-  place_shallow (place-is n a b c ss rest wrap e i) m h = index_shallow i (suc m) h.1
+  place_shallow : {ss rest : List Spot} {p : Access} → IsCell ss rest p → (n : ℕ) → IsShallow n ss → IsShallow n rest
+  place_shallow (indexed-is n a b c ss rest wrap e i) m h = index_shallow i (suc m) h.1
 
   -- and behind an index
   index_shallow : {ss rest : List Spot} {wrap : Bool} {e : Expr} → IsIndex ss rest wrap e → (n : ℕ) → IsShallow n ss → IsShallow n rest
@@ -144,13 +145,13 @@ mutual
 -- ---- statements
 
 -- the greater of two that fit fits
-max_fits : (a b n : ℕ) → a + n ≤ bracket_bound → b + n ≤ bracket_bound → max a b + n ≤ bracket_bound
-max_fits a b n p q = let m : max a b ≤ bracket_bound - n = max-le (omega (arith, p)) (omega (arith, q)) in omega (arith, m, p)
+max_fits : (a b n : ℕ) → a + n ≤ BRACKETS → b + n ≤ BRACKETS → max a b + n ≤ BRACKETS
+max_fits a b n p q = let m : max a b ≤ BRACKETS - n = max-le (omega (arith, p)) (omega (arith, q)) in omega (arith, m, p)
 
 mutual
   -- behind a statement as many brackets are open as before it, and its blocks are nested no deeper than more may be
-  stmt_shallow : {ss rest : List Spot} {x : Stmt} → IsStmt ss rest x → (n : ℕ) → n ≤ bracket_bound → IsShallow n ss
-      → IsShallow n rest × (stmt_nesting x + n ≤ bracket_bound)
+  stmt_shallow : {ss rest : List Spot} {x : Stmt} → IsStmt ss rest x → (n : ℕ) → n ≤ BRACKETS → IsShallow n ss
+      → IsShallow n rest × (stmt_nesting x + n ≤ BRACKETS)
   stmt_shallow (let-is m a b c d ss rest e i) n le h = (expr_shallow i n h, omega (arith, le))
   stmt_shallow (set-is m a b c ss rest e i) n le h = (expr_shallow i n h, omega (arith, le))
   stmt_shallow (fold-is m a b c f ss rest e i) n le h = (expr_shallow i n h, omega (arith, le))
@@ -168,24 +169,24 @@ mutual
 
   -- the same of a loop
   loop_shallow : {ss rest : List Spot} {seq : Bool} {l : Loop} → IsLoop ss rest seq l → (n : ℕ) → IsShallow n ss
-      → IsShallow n rest × (stmt_nesting (stmt.For l) + n ≤ bracket_bound)
+      → IsShallow n rest × (stmt_nesting (stmt.For l) + n ≤ BRACKETS)
   loop_shallow {l = l} (loop-is m a b c d seq ss mid more rest low high body i j k) n h =
       let r = block_shallow k n (expr_shallow j n (expr_shallow i n h)) in (r.0, omega (arith, nesting-For l, r.1))
 
   -- a block opens one more
   block_shallow : {ss rest : List Spot} {l : List Stmt} → IsBlock ss rest l → (n : ℕ) → IsShallow n ss
-      → IsShallow n rest × (all_nesting l + suc n ≤ bracket_bound)
+      → IsShallow n rest × (all_nesting l + suc n ≤ BRACKETS)
   block_shallow (block-is a b ss rest body d) n h = stmts_shallow d (suc n) h.0 h.1
 
   -- and so does the other part of an if, where it is there
-  else_shallow : {ss rest : List Spot} {l : List Stmt} → IsElse ss rest l → (n : ℕ) → suc n ≤ bracket_bound → IsShallow n ss
-      → IsShallow n rest × (all_nesting l + suc n ≤ bracket_bound)
+  else_shallow : {ss rest : List Spot} {l : List Stmt} → IsElse ss rest l → (n : ℕ) → suc n ≤ BRACKETS → IsShallow n ss
+      → IsShallow n rest × (all_nesting l + suc n ≤ BRACKETS)
   else_shallow (no-else rest) n le h = (h, omega (arith, le))
   else_shallow (else-is a ss rest body d) n le h = block_shallow d n h
 
   -- one statement after another
-  stmts_shallow : {ss rest : List Spot} {l : List Stmt} → IsStmts ss rest l → (n : ℕ) → n ≤ bracket_bound → IsShallow n ss
-      → IsShallow n rest × (all_nesting l + n ≤ bracket_bound)
+  stmts_shallow : {ss rest : List Spot} {l : List Stmt} → IsStmts ss rest l → (n : ℕ) → n ≤ BRACKETS → IsShallow n ss
+      → IsShallow n rest × (all_nesting l + n ≤ BRACKETS)
   stmts_shallow (no-more rest) n le h = (h, omega (arith, le))
   stmts_shallow (one-more ss mid rest first later d ds) n le h =
       let r = stmt_shallow d n le h in
@@ -200,7 +201,7 @@ decls_shallow (var-is m a b c ss rest arrays vars i) n h = decls_shallow i n h
 decls_shallow (var-value-is m x a b c d e ss rest arrays vars i) n h = decls_shallow i n h
 
 -- the blocks of a program whose tokens were let through are nested no deeper than brackets may be
-pub program_nesting : (tokens : Tokens) (p : Program) → IsProgram (bounded tokens).spots p → nesting_of p ≤ bracket_bound
+pub program_nesting : (tokens : Tokens) (p : Program) → IsProgram (bounded tokens).spots p → nesting_of p ≤ BRACKETS
 program_nesting tokens p (mid, ds, is) =
     let r = stmts_shallow is 0 (omega arith) (decls_shallow ds 0 (shallow_bounded no_counts tokens.spots tokens.cut)) in
     omega (arith, r.1)

@@ -12,10 +12,10 @@ use Rattle.nona_tree.specs.declared.trees.ArrayDecl.{ArrayDecl}
 use Rattle.nona_tree.specs.declared.trees.VarDecl.{VarDecl}
 use Rattle.nona_tree.specs.declared.trees.Program.{Program}
 use Rattle.nona_grammar.specs.Levels.{sign, named}
-use Rattle.nona_grammar.specs.Stack.{Trees, Reach, Bind, Assign, Merge, Store, Begin, Branch, Repeat, Each, Show, Array, Var, act, push, block, adds, empty, whole_of}
+use Rattle.nona_grammar.specs.Stack.{Trees, Reach, Bind, Assign, Merge, Store, Begin, Branch, Repeat, Each, Show, Array, Var, act, push, with_block, adds, empty, whole_of}
 use Rattle.nona_grammar.specs.Machine
-use Rattle.nona_grammar.specs.Machine.{Sym, Do, Want, Decls, Stmts, Statement, AfterCell, Else, ForName, Block, Whole, behind, chosen, step, after, build}
-use Rattle.nona_grammar.specs.Grammar.{IsStmt, IsBlock, IsElse, IsStmts, IsDecls, IsProgram, place-is, let-is, set-is, fold-is, put-is, fold-put-is, if-is, while-is, for-is, seq-for-is, print-is, loop-is, block-is, no-else, else-is, no-more, one-more, no-decl, array-is, var-is, var-value-is}
+use Rattle.nona_grammar.specs.Machine.{Sym, Do, Want, Decls, Stmts, Statement, AfterCell, Else, ForName, Block, Whole, behind, expanded, step, behind_step, build}
+use Rattle.nona_grammar.specs.Grammar.{IsStmt, IsBlock, IsElse, IsStmts, IsDecls, IsProgram, indexed-is, let-is, set-is, fold-is, put-is, fold-put-is, if-is, while-is, for-is, seq-for-is, print-is, loop-is, block-is, no-else, else-is, no-more, one-more, no-decl, array-is, var-is, var-value-is}
 use Rattle.nona_grammar.proofs.Machining.{passed, acted}
 use Rattle.nona_grammar.proofs.Meaning.{AllMean, declared, array_of}
 use Rattle.nona_grammar.proofs.Taking.{adds_more}
@@ -39,8 +39,8 @@ stmt_first : {ss rest : List Spot} {x : Stmt} → IsStmt ss rest x → Starts ss
 stmt_first (let-is n a b c d ss rest e i) = tt
 stmt_first (set-is n a b c ss rest e i) = tt
 stmt_first (fold-is n a b c f ss rest e i) = tt
-stmt_first (put-is a b ss mid rest p e (place-is n a' b' c' ss' rest' wrap e' i') i) = tt
-stmt_first (fold-put-is a b f ss mid rest p e (place-is n a' b' c' ss' rest' wrap e' i') i) = tt
+stmt_first (put-is a b ss mid rest p e (indexed-is n a' b' c' ss' rest' wrap e' i') i) = tt
+stmt_first (fold-put-is a b f ss mid rest p e (indexed-is n a' b' c' ss' rest' wrap e' i') i) = tt
 stmt_first (if-is a ss mid more rest e then_part else_part i j l) = tt
 stmt_first (while-is a ss mid rest e body i j) = tt
 stmt_first (for-is ss rest l (loop-is n a b c d seq ss' mid more rest' low high body i j m)) = tt
@@ -78,7 +78,7 @@ else_none (token.Word w.Else) n = absurd n
 else_none _ n = refl
 
 -- so the if has an empty one
-pub past_else : (end : ℕ) (k : List Sym) (v : Trees) (rest : List Spot) → NoElse rest → build end (Else ∷ k) v rest ≡ build end k (act Branch (block [] v)) rest
+pub past_else : (end : ℕ) (k : List Sym) (v : Trees) (rest : List Spot) → NoElse rest → build end (Else ∷ k) v rest ≡ build end k (act Branch (with_block [] v)) rest
 past_else end k v [] n = refl
 past_else end k v (x ∷ ss) n = passed end Else k v x ss (else_none x.token n) refl
 
@@ -88,14 +88,14 @@ block_first (block-is a b ss rest body d) = tt
 
 -- a token that is taken is taken with more behind
 behind_some : (o : Option (List Sym)) (b : Sym) (k : List Sym) (v : Trees) (x y : Option (List Sym × Trees)) → IsSome o
-    → chosen (behind o b) k v x ≡ chosen o (b ∷ k) v y
+    → expanded (behind o b) k v x ≡ expanded o (b ∷ k) v y
 behind_some None b k v x y h = absurd h
 behind_some (Some new) b k v x y h = ap (λ (l : List Sym). Some (l, v)) (append_assoc new (b ∷ []) k)
 
 -- before a statement, statements are one and more
 stmts_are : (end : ℕ) (k : List Sym) (v : Trees) (ss : List Spot) → Starts ss → build end (Stmts ∷ k) v ss ≡ build end (Statement ∷ Stmts ∷ k) v ss
 stmts_are end k v [] h = absurd h
-stmts_are end k v (x ∷ ss) h = ap (λ o. after o x.at (λ l u. build end l u ss)) (behind_some (Machine.statement x.token x.at) Stmts k v (step k v x) None h)
+stmts_are end k v (x ∷ ss) h = ap (λ o. behind_step o x.at (λ l u. build end l u ss)) (behind_some (Machine.statement x.token x.at) Stmts k v (step k v x) None h)
 
 -- what begins a statement begins no declaration
 no_decl_token : (t : Token) (at : ℕ) → IsSome (Machine.statement t at) → Machine.decls t ≡ None
@@ -126,43 +126,43 @@ mutual
       expr_built i end (Want s.Semicolon ∷ Do (Assign (named n a)) ∷ k) v tt ∙ acted end (Assign (named n a)) k (push e v) rest
   stmt_built (fold-is n a b c f ss rest e i) end k v _ =
       expr_built i end (Want s.Semicolon ∷ Do (Merge (named n a) f) ∷ k) v tt ∙ acted end (Merge (named n a) f) k (push e v) rest
-  stmt_built (put-is a b ss mid rest p e (place-is n a' b' c' ss' rest' wrap e' i') i) end k v _ =
+  stmt_built (put-is a b ss mid rest p e (indexed-is n a' b' c' ss' rest' wrap e' i') i) end k v _ =
       let u : Trees = act (Reach (named n a') wrap) (push e' v) in
       index_built i' end n a' (Want s.CloseIndex ∷ AfterCell ∷ k) v tt ∙ expr_built i end (Want s.Semicolon ∷ Do (Store None) ∷ k) u tt
       ∙ acted end (Store None) k (push e u) rest
-  stmt_built (fold-put-is a b f ss mid rest p e (place-is n a' b' c' ss' rest' wrap e' i') i) end k v _ =
+  stmt_built (fold-put-is a b f ss mid rest p e (indexed-is n a' b' c' ss' rest' wrap e' i') i) end k v _ =
       let u : Trees = act (Reach (named n a') wrap) (push e' v) in
       index_built i' end n a' (Want s.CloseIndex ∷ AfterCell ∷ k) v tt ∙ expr_built i end (Want s.Semicolon ∷ Do (Store (Some f)) ∷ k) u tt
       ∙ acted end (Store (Some f)) k (push e u) rest
   stmt_built (if-is a ss mid more rest e then_part else_part i j l) end k v c =
-      expr_built i end (Block ∷ Else ∷ k) v (block_first j) ∙ block_built j end (Else ∷ k) (push e v) ∙ else_built l end k (block then_part (push e v)) c
+      expr_built i end (Block ∷ Else ∷ k) v (block_first j) ∙ block_built j end (Else ∷ k) (push e v) ∙ else_built l end k (with_block then_part (push e v)) c
   stmt_built (while-is a ss mid rest e body i j) end k v _ =
       expr_built i end (Block ∷ Do (Repeat a) ∷ k) v (block_first j) ∙ block_built j end (Do (Repeat a) ∷ k) (push e v)
-      ∙ acted end (Repeat a) k (block body (push e v)) rest
+      ∙ acted end (Repeat a) k (with_block body (push e v)) rest
   stmt_built (for-is ss rest l (loop-is n a b c d seq ss' mid more rest' low high body i j m)) end k v _ =
       let each = Each (named n b) false a in
       let bounds : Trees = push high (push low v) in
       expr_built i end (Want s.Range ∷ Whole ∷ Block ∷ Do each ∷ k) v tt ∙ expr_built j end (Block ∷ Do each ∷ k) (push low v) (block_first m)
-      ∙ block_built m end (Do each ∷ k) bounds ∙ acted end each k (block body bounds) rest
+      ∙ block_built m end (Do each ∷ k) bounds ∙ acted end each k (with_block body bounds) rest
   stmt_built (seq-for-is a' ss rest l (loop-is n a b c d seq ss' mid more rest' low high body i j m)) end k v _ =
       let each = Each (named n b) true a in
       let bounds : Trees = push high (push low v) in
       expr_built i end (Want s.Range ∷ Whole ∷ Block ∷ Do each ∷ k) v tt ∙ expr_built j end (Block ∷ Do each ∷ k) (push low v) (block_first m)
-      ∙ block_built m end (Do each ∷ k) bounds ∙ acted end each k (block body bounds) rest
+      ∙ block_built m end (Do each ∷ k) bounds ∙ acted end each k (with_block body bounds) rest
   stmt_built (print-is a b ss rest e i) end k v _ =
       expr_built i end (Want s.Semicolon ∷ Do (Show a) ∷ k) v tt ∙ acted end (Show a) k (push e v) rest
 
   -- a block is read whatever is left behind it
   pub block_built : {ss rest : List Spot} {l : List Stmt} → IsBlock ss rest l → (end : ℕ) (k : List Sym) (v : Trees)
-      → build end (Block ∷ k) v ss ≡ build end k (block l v) rest
+      → build end (Block ∷ k) v ss ≡ build end k (with_block l v) rest
   block_built (block-is a b ss rest body d) end k v =
-      acted end Begin (Stmts ∷ Want s.CloseBlock ∷ k) v ss ∙ stmts_built d end (Want s.CloseBlock ∷ k) (block [] v) tt
+      acted end Begin (Stmts ∷ Want s.CloseBlock ∷ k) v ss ∙ stmts_built d end (Want s.CloseBlock ∷ k) (with_block [] v) tt
 
   -- the other part of an if ends it
   pub else_built : {ss rest : List Spot} {l : List Stmt} → IsElse ss rest l → (end : ℕ) (k : List Sym) (v : Trees) → NoElse rest
-      → build end (Else ∷ k) v ss ≡ build end k (act Branch (block l v)) rest
+      → build end (Else ∷ k) v ss ≡ build end k (act Branch (with_block l v)) rest
   else_built (no-else rest) end k v c = past_else end k v rest c
-  else_built (else-is a ss rest body d) end k v c = block_built d end (Do Branch ∷ k) v ∙ acted end Branch k (block body v) rest
+  else_built (else-is a ss rest body d) end k v c = block_built d end (Do Branch ∷ k) v ∙ acted end Branch k (with_block body v) rest
 
   -- statements are read up to where more may follow
   pub stmts_built : {ss rest : List Spot} {l : List Stmt} → IsStmts ss rest l → (end : ℕ) (k : List Sym) (v : Trees) → NoElse rest

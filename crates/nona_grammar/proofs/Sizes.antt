@@ -11,12 +11,12 @@ use Rattle.nona_tree.specs.declared.trees.VarDecl.{VarDecl}
 use Rattle.nona_tree.specs.declared.trees.Program.{Program}
 use Rattle.nona_tree.specs.Smallness.{expr_size, stmt_size, all_size, size_of}
 use Rattle.nona_tree.proofs.CheckEquations.{size-Cell, size-Neg, size-Not, size-Binary, size-If, size-While, size-For}
-use Rattle.nona_grammar.specs.Grammar.{IsPlace, IsIndex, IsPrimary, IsLevel, IsExpr, IsStmt, IsLoop, IsBlock, IsElse, IsStmts, IsDecls, IsProgram, place-is, plain-is, wrap-is, number-is, scalar-is, cell-is, len-is, brackets-are, primary-is, negated-is, inverted-is, lower-is, joined-is, level-is, compared-is, let-is, set-is, fold-is, put-is, fold-put-is, if-is, while-is, for-is, seq-for-is, print-is, loop-is, block-is, no-else, else-is, no-more, one-more, no-decl, array-is, var-is, var-value-is}
+use Rattle.nona_grammar.specs.Grammar.{IsCell, IsIndex, IsPrimary, IsLevel, IsExpr, IsStmt, IsLoop, IsBlock, IsElse, IsStmts, IsDecls, IsProgram, indexed-is, plain-is, wrap-is, number-is, scalar-is, cell-is, len-is, brackets-are, primary-is, negated-is, inverted-is, lower-is, joined-is, level-is, compared-is, let-is, set-is, fold-is, put-is, fold-put-is, if-is, while-is, for-is, seq-for-is, print-is, loop-is, block-is, no-else, else-is, no-more, one-more, no-decl, array-is, var-is, var-value-is}
 
 mutual
   -- a place has two tokens and more beside those of its index
-  place_size : {ss rest : List Spot} {p : Access} → IsPlace ss rest p → expr_size p.index + length rest + 2 ≤ length ss
-  place_size (place-is n a b c ss rest wrap e i) = omega (arith, index_size i)
+  place_size : {ss rest : List Spot} {p : Access} → IsCell ss rest p → expr_size p.index + length rest + 2 ≤ length ss
+  place_size (indexed-is n a b c ss rest wrap e i) = omega (arith, index_size i)
 
   -- an index has those of its expression
   index_size : {ss rest : List Spot} {wrap : Bool} {e : Expr} → IsIndex ss rest wrap e → expr_size e + length rest ≤ length ss

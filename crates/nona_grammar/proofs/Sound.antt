@@ -10,7 +10,7 @@ use Rattle.nona_tree.specs.declared.trees.ArrayDecl.{ArrayDecl}
 use Rattle.nona_tree.specs.declared.trees.VarDecl.{VarDecl}
 use Rattle.nona_grammar.specs.Levels.{named}
 use Rattle.nona_grammar.specs.Stack.{Trees, more_of, one_of}
-use Rattle.nona_grammar.specs.Machine.{Sym, Do, Decls, Stmts, Else, Compare, Tail, MaybeCell, next, optional, skip, past, chosen, step, finish, after, build}
+use Rattle.nona_grammar.specs.Machine.{Sym, Do, Decls, Stmts, Else, Compare, Tail, MaybeCell, next, optional, skip, past, expanded, step, finish, behind_step, build}
 use Rattle.nona_grammar.specs.Grammar.{scalar-is, level-is, no-more, no-else, no-decl}
 use Rattle.nona_grammar.proofs.Meaning.{Then, Means, AllMean, Taken, all_append}
 use Rattle.nona_grammar.proofs.Taking.{means_taken}
@@ -60,7 +60,7 @@ left_past false o ss q X f g = g
 
 -- a step is the first symbol's, or one of those behind it
 left_chosen : (o : Option (List Sym)) (k : List Sym) (v : Trees) (ss : List Spot) (q : Then) (other : Option (List Sym × Trees)) (X : Type 0)
-    → (Taken o v ss (λ u rest. AllMean k u rest q) → X) → (Left other ss q → X) → Left (chosen o k v other) ss q → X
+    → (Taken o v ss (λ u rest. AllMean k u rest q) → X) → (Left other ss q → X) → Left (expanded o k v other) ss q → X
 left_chosen None k v ss q other X f g h = g h
 left_chosen (Some new) k v ss q other X f g h = f (subst (λ (Y : Type 0). Y) (all_append new k v ss q) h)
 
@@ -92,7 +92,7 @@ finished end (a ∷ k) v out h =
 -- behind a step the rest is read to its end
 after_some : (o : Option (List Sym × Trees)) (at end : ℕ) (ss : List Spot) (out : Trees)
     → ((k : List Sym) (v : Trees) → build end k v ss ≡ Ok out → AllMean k v ss (Ends out))
-    → after o at (λ l u. build end l u ss) ≡ Ok out → Left o ss (Ends out)
+    → behind_step o at (λ l u. build end l u ss) ≡ Ok out → Left o ss (Ends out)
 after_some None at end ss out f h = cc
 after_some (Some x) at end ss out f h = f x.0 x.1 h
 

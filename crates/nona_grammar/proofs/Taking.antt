@@ -23,7 +23,7 @@ use Rattle.nona_grammar.specs.Levels.{spot, word, sign, name, number, named, wri
 use Rattle.nona_grammar.specs.Stack.{Trees, Join, Reach, more_of, one_of, two_of, put}
 use Rattle.nona_grammar.specs.Machine
 use Rattle.nona_grammar.specs.Machine.{Sym, Do, Want, In, Decls, ArrayName, CellsOpen, Cells, VarName, Init, InitNumber, Stmts, Statement, LetName, AfterName, AfterCell, Else, ForWord, ForName, Block, Index, Whole, Compare, Level, Tail, Primary, MaybeCell, LenOpen, LenName, sign_code, choice, behind, level_next, next}
-use Rattle.nona_grammar.specs.Grammar.{IsPlace, IsIndex, IsPrimary, IsExpr, IsStmt, IsStmts, IsDecls, IsLoop, place-is, plain-is, wrap-is, number-is, cell-is, len-is, brackets-are, primary-is, negated-is, inverted-is, lower-is, joined-is, compared-is, let-is, set-is, fold-is, put-is, fold-put-is, if-is, while-is, for-is, seq-for-is, print-is, loop-is, block-is, else-is, one-more, array-is, var-is, var-value-is}
+use Rattle.nona_grammar.specs.Grammar.{IsCell, IsIndex, IsPrimary, IsExpr, IsStmt, IsStmts, IsDecls, IsLoop, indexed-is, plain-is, wrap-is, number-is, cell-is, len-is, brackets-are, primary-is, negated-is, inverted-is, lower-is, joined-is, compared-is, let-is, set-is, fold-is, put-is, fold-put-is, if-is, while-is, for-is, seq-for-is, print-is, loop-is, block-is, else-is, one-more, array-is, var-is, var-value-is}
 use Rattle.nona_grammar.proofs.Meaning.{Then, Means, Taken, array_of, taken_behind}
 
 -- ---- signs
@@ -88,8 +88,8 @@ primary_taken _ at v ss q g = absurd g
 
 -- an index in its brackets makes the place of a cell of the name before it
 place_of : (n : List ℕ) (a b c : ℕ) (ss mid rest : List Spot) (wrap : Bool) (e : Expr) → mid ≡ sign s.CloseIndex c ∷ rest → IsIndex ss mid wrap e
-    → IsPlace (name n a ∷ sign s.OpenIndex b ∷ ss) rest (record { array = named n a; wrap = wrap; index = e })
-place_of n a b c ss mid rest wrap e is i = place-is n a b c ss rest wrap e (subst (λ (l : List Spot). IsIndex ss l wrap e) is i)
+    → IsCell (name n a ∷ sign s.OpenIndex b ∷ ss) rest (record { array = named n a; wrap = wrap; index = e })
+place_of n a b c ss mid rest wrap e is i = indexed-is n a b c ss rest wrap e (subst (λ (l : List Spot). IsIndex ss l wrap e) is i)
 
 -- an index makes a cell of the name before it
 maybe_cell_taken : (n : List ℕ) (a : ℕ) (t : Token) (at : ℕ) (v : Trees) (ss : List Spot) (q : Then)

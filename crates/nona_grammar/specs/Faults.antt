@@ -5,17 +5,18 @@ use Rattle.nona_tree.specs.declared.trees.Program.{Program}
 use Rattle.nona_grammar.specs.Grammar.{IsProgram}
 
 -- these tokens and some behind them are a text of the kind
-abbrev pub IsFront : (List Spot → Type 0) → List Spot → Type 0
-IsFront kind ss = (more : List Spot) × kind (ss ++ more)
+abbrev pub IsViable : (List Spot → Type 0) → List Spot → Type 0
+IsViable kind ss = (more : List Spot) × kind (ss ++ more)
 
 -- a token at the place is the first that no text of the kind has there: those before it are a front, and with it they are not
 abbrev pub StopsAt : (List Spot → Type 0) → List Spot → ℕ → Type 0
 StopsAt kind ss at =
-    (front : List Spot) × (x : Spot) × (later : List Spot) × (ss ≡ front ++ x ∷ later) × (at ≡ x.at) × IsFront kind front × (IsFront kind (front ++ x ∷ []) → ⊥)
+    (front : List Spot) × (x : Spot) × (later : List Spot) × (ss ≡ front ++ x ∷ later) × (at ≡ x.at) × IsViable kind front
+    × (IsViable kind (front ++ x ∷ []) → ⊥)
 
 -- the tokens are no text of the kind, but a front of one
 abbrev pub IsShort : (List Spot → Type 0) → List Spot → Type 0
-IsShort kind ss = IsFront kind ss × (kind ss → ⊥)
+IsShort kind ss = IsViable kind ss × (kind ss → ⊥)
 
 -- the place of the first fault: a token's, or the end of the text
 abbrev pub FirstFault : (List Spot → Type 0) → ℕ → List Spot → ℕ → Type 0

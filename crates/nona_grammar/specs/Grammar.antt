@@ -19,21 +19,21 @@ use Rattle.nona_tree.specs.declared.trees.Program.{Program}
 use Rattle.nona_grammar.specs.Levels.{spot, word, sign, name, number, named, joining, level, loosest, comparisons}
 
 mutual
-  -- place := NAME [ index ]
-  pub data IsPlace : List Spot → List Spot → Access → Type 0 where
-    place-is : (n : List ℕ) (a b c : ℕ) (ss rest : List Spot) (wrap : Bool) (e : Expr) → IsIndex ss (sign s.CloseIndex c ∷ rest) wrap e
-        → IsPlace (name n a ∷ sign s.OpenIndex b ∷ ss) rest (record { array = named n a; wrap = wrap; index = e })
+  -- cell := NAME [ index ]
+  pub data IsCell : List Spot → List Spot → Access → Type 0 where
+    indexed-is : (n : List ℕ) (a b c : ℕ) (ss rest : List Spot) (wrap : Bool) (e : Expr) → IsIndex ss (sign s.CloseIndex c ∷ rest) wrap e
+        → IsCell (name n a ∷ sign s.OpenIndex b ∷ ss) rest (record { array = named n a; wrap = wrap; index = e })
 
   -- index := expr | wrap expr
   pub data IsIndex : List Spot → List Spot → Bool → Expr → Type 0 where
     plain-is : (ss rest : List Spot) (e : Expr) → IsExpr ss rest e → IsIndex ss rest false e
     wrap-is : (a : ℕ) (ss rest : List Spot) (e : Expr) → IsExpr ss rest e → IsIndex (word w.Wrap a ∷ ss) rest true e
 
-  -- primary := NUMBER | NAME | place | len ( NAME ) | ( expr )
+  -- primary := NUMBER | NAME | cell | len ( NAME ) | ( expr )
   pub data IsPrimary : List Spot → List Spot → Expr → Type 0 where
     number-is : (n : ℤ) (a : ℕ) (rest : List Spot) → IsPrimary (number n a ∷ rest) rest (expr.Number n)
     scalar-is : (n : List ℕ) (a : ℕ) (rest : List Spot) → IsPrimary (name n a ∷ rest) rest (expr.Scalar (named n a))
-    cell-is : (ss rest : List Spot) (p : Access) → IsPlace ss rest p → IsPrimary ss rest (expr.Cell p)
+    cell-is : (ss rest : List Spot) (p : Access) → IsCell ss rest p → IsPrimary ss rest (expr.Cell p)
     len-is : (n : List ℕ) (a b c d : ℕ) (rest : List Spot)
         → IsPrimary (word w.Len a ∷ sign s.Open b ∷ name n c ∷ sign s.Close d ∷ rest) rest (expr.Len (named n c))
     brackets-are : (a b : ℕ) (ss rest : List Spot) (e : Expr) → IsExpr ss (sign s.Close b ∷ rest) e → IsPrimary (sign s.Open a ∷ ss) rest e
@@ -67,11 +67,11 @@ mutual
     -- NAME FOLD expr ;
     fold-is : (n : List ℕ) (a b c : ℕ) (f : Fold) (ss rest : List Spot) (e : Expr) → IsExpr ss (sign s.Semicolon c ∷ rest) e
         → IsStmt (name n a ∷ spot (token.Fold f) b ∷ ss) rest (stmt.Fold (named n a) f e)
-    -- place = expr ;
-    put-is : (a b : ℕ) (ss mid rest : List Spot) (p : Access) (e : Expr) → IsPlace ss (sign s.Set a ∷ mid) p
+    -- cell = expr ;
+    put-is : (a b : ℕ) (ss mid rest : List Spot) (p : Access) (e : Expr) → IsCell ss (sign s.Set a ∷ mid) p
         → IsExpr mid (sign s.Semicolon b ∷ rest) e → IsStmt ss rest (stmt.Put p e)
-    -- place FOLD expr ;
-    fold-put-is : (a b : ℕ) (f : Fold) (ss mid rest : List Spot) (p : Access) (e : Expr) → IsPlace ss (spot (token.Fold f) a ∷ mid) p
+    -- cell FOLD expr ;
+    fold-put-is : (a b : ℕ) (f : Fold) (ss mid rest : List Spot) (p : Access) (e : Expr) → IsCell ss (spot (token.Fold f) a ∷ mid) p
         → IsExpr mid (sign s.Semicolon b ∷ rest) e → IsStmt ss rest (stmt.FoldPut p f e)
     -- if expr block   or   if expr block else block
     if-is : (a : ℕ) (ss mid more rest : List Spot) (e : Expr) (then_part else_part : List Stmt) → IsExpr ss mid e → IsBlock mid more then_part
@@ -84,7 +84,8 @@ mutual
     -- seq loop
     seq-for-is : (a : ℕ) (ss rest : List Spot) (l : Loop) → IsLoop ss rest true l → IsStmt (word w.Seq a ∷ ss) rest (stmt.For l)
     -- print expr ;
-    print-is : (a b : ℕ) (ss rest : List Spot) (e : Expr) → IsExpr ss (sign s.Semicolon b ∷ rest) e → IsStmt (word w.Print a ∷ ss) rest (stmt.Print e a)
+    print-is : (a b : ℕ) (ss rest : List Spot) (e : Expr) → IsExpr ss (sign s.Semicolon b ∷ rest) e
+        → IsStmt (word w.Print a ∷ ss) rest (stmt.Print e a)
 
   -- loop := for NAME in expr .. expr block
   pub data IsLoop : List Spot → List Spot → Bool → Loop → Type 0 where
@@ -95,7 +96,8 @@ mutual
 
   -- block := { stmt* }
   pub data IsBlock : List Spot → List Spot → List Stmt → Type 0 where
-    block-is : (a b : ℕ) (ss rest : List Spot) (body : List Stmt) → IsStmts ss (sign s.CloseBlock b ∷ rest) body → IsBlock (sign s.OpenBlock a ∷ ss) rest body
+    block-is : (a b : ℕ) (ss rest : List Spot) (body : List Stmt) → IsStmts ss (sign s.CloseBlock b ∷ rest) body
+        → IsBlock (sign s.OpenBlock a ∷ ss) rest body
 
   -- what may stand behind the first block of an if: nothing, or   else block
   pub data IsElse : List Spot → List Spot → List Stmt → Type 0 where
@@ -105,7 +107,8 @@ mutual
   -- stmt*
   pub data IsStmts : List Spot → List Spot → List Stmt → Type 0 where
     no-more : (rest : List Spot) → IsStmts rest rest []
-    one-more : (ss mid rest : List Spot) (first : Stmt) (later : List Stmt) → IsStmt ss mid first → IsStmts mid rest later → IsStmts ss rest (first ∷ later)
+    one-more : (ss mid rest : List Spot) (first : Stmt) (later : List Stmt) → IsStmt ss mid first → IsStmts mid rest later
+        → IsStmts ss rest (first ∷ later)
 
 -- decl*,   decl := array NAME [ NUMBER ] ; | var NAME ; | var NAME = NUMBER ;
 pub data IsDecls : List Spot → List Spot → List ArrayDecl → List VarDecl → Type 0 where
@@ -114,9 +117,11 @@ pub data IsDecls : List Spot → List Spot → List ArrayDecl → List VarDecl �
       → IsDecls (word w.Array a ∷ name n b ∷ sign s.OpenIndex c ∷ number m d ∷ sign s.CloseIndex e ∷ sign s.Semicolon f ∷ ss) rest
       (record { name = named n b; cells = m; cells_at = d } ∷ arrays) vars
   var-is : (n : List ℕ) (a b c : ℕ) (ss rest : List Spot) (arrays : List ArrayDecl) (vars : List VarDecl) → IsDecls ss rest arrays vars
-      → IsDecls (word w.Var a ∷ name n b ∷ sign s.Semicolon c ∷ ss) rest arrays (record { name = named n b; value = pos 0 } ∷ vars)
+      → IsDecls (word w.Var a ∷ name n b ∷ sign s.Semicolon c ∷ ss) rest arrays
+      (record { name = named n b; value = pos 0 } ∷ vars)
   var-value-is : (n : List ℕ) (m : ℤ) (a b c d e : ℕ) (ss rest : List Spot) (arrays : List ArrayDecl) (vars : List VarDecl) → IsDecls ss rest arrays vars
-      → IsDecls (word w.Var a ∷ name n b ∷ sign s.Set c ∷ number m d ∷ sign s.Semicolon e ∷ ss) rest arrays (record { name = named n b; value = m } ∷ vars)
+      → IsDecls (word w.Var a ∷ name n b ∷ sign s.Set c ∷ number m d ∷ sign s.Semicolon e ∷ ss) rest arrays
+      (record { name = named n b; value = m } ∷ vars)
 
 -- program := decl* stmt*
 abbrev pub IsProgram : List Spot → Program → Type 0

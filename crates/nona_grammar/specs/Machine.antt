@@ -12,7 +12,7 @@ use Rattle.nona_lex.specs.declared.tokens.Spot.{Spot}
 use Rattle.nona_tree.specs.declared.trees.Op.{Op}
 use Rattle.nona_tree.specs.declared.trees.Expr.TheVariants as expr
 use Rattle.nona_grammar.specs.Levels.{named, op_of, level, loosest, comparisons}
-use Rattle.nona_grammar.specs.Stack.{Trees, Act, Leaf, Negate, Invert, Join, Reach, Fetch, Bind, Assign, Merge, Store, Begin, Branch, Repeat, Each, Show, Array, Var, block, act}
+use Rattle.nona_grammar.specs.Stack.{Trees, empty, Act, Leaf, Negate, Invert, Join, Reach, Fetch, Bind, Assign, Merge, Store, Begin, Branch, Repeat, Each, Show, Array, Var, with_block, act}
 
 -- what may be still to come: what is made of the trees so far, single tokens, and the kinds of the grammar
 pub data Sym : Type 0 where
@@ -261,7 +261,7 @@ next LenName s = len_name s.token s.at
 -- what a symbol makes of the trees where no token of its own comes
 abbrev pub skip : Sym → Trees → Trees
 skip (Do a) v = act a v
-skip Else v = act Branch (block [] v)
+skip Else v = act Branch (with_block [] v)
 skip (MaybeCell n a) v = act (Leaf (expr.Scalar (named n a))) v
 skip _ v = v
 
@@ -282,14 +282,14 @@ past true later stuck = later
 past false later stuck = stuck
 
 -- the symbols that come in the place of the first, or what is done otherwise
-abbrev pub chosen : Option (List Sym) → List Sym → Trees → Option (List Sym × Trees) → Option (List Sym × Trees)
-chosen (Some new) k v otherwise = Some (new ++ k, v)
-chosen None k v otherwise = otherwise
+abbrev pub expanded : Option (List Sym) → List Sym → Trees → Option (List Sym × Trees) → Option (List Sym × Trees)
+expanded (Some new) k v otherwise = Some (new ++ k, v)
+expanded None k v otherwise = otherwise
 
 -- one token: what is to come then, and the trees
 abbrev pub step : List Sym → Trees → Spot → Option (List Sym × Trees)
 step [] v s = None
-step (a ∷ k) v s = chosen (next a s) k v (past (optional a) (step k (skip a v) s) None)
+step (a ∷ k) v s = expanded (next a s) k v (past (optional a) (step k (skip a v) s) None)
 
 -- the end of the text, at a place
 abbrev pub finish : ℕ → List Sym → Trees → Result Trees ℕ
@@ -297,11 +297,15 @@ finish end [] v = Ok v
 finish end (a ∷ k) v = past (optional a) (finish end k (skip a v)) (Err end)
 
 -- what comes behind a step, or the fault at this token's place
-abbrev pub after : Option (List Sym × Trees) → ℕ → (List Sym → Trees → Result Trees ℕ) → Result Trees ℕ
-after None at later = Err at
-after (Some x) at later = later x.0 x.1
+abbrev pub behind_step : Option (List Sym × Trees) → ℕ → (List Sym → Trees → Result Trees ℕ) → Result Trees ℕ
+behind_step None at later = Err at
+behind_step (Some x) at later = later x.0 x.1
 
 -- the trees of the tokens, or the place of the first token that fits nowhere
 abbrev pub build : ℕ → List Sym → Trees → List Spot → Result Trees ℕ
 build end k v [] = finish end k v
-build end k v (s ∷ ss) = after (step k v s) s.at (λ k' v'. build end k' v' ss)
+build end k v (s ∷ ss) = behind_step (step k v s) s.at (λ k' v'. build end k' v' ss)
+
+-- the trees of a whole text's tokens
+abbrev pub built : ℕ → List Spot → Result Trees ℕ
+built end ss = build end (Decls ∷ Stmts ∷ []) empty ss

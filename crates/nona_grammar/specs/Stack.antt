@@ -21,7 +21,8 @@ pub record Trees : Type 0 where
   pub arrays : List ArrayDecl
   pub vars : List VarDecl
 
--- what is made: a leaf, an expression of the newest or of the two newest, the place of a cell, the cell of the newest place, each statement, the beginning of a block, an array, a variable
+-- what is made: a leaf, an expression of the newest or of the two newest, the place of a cell, the cell of the newest place, each
+-- statement, the beginning of a block, an array, a variable
 pub data Act : Type 0 where
   Leaf : Expr → Act
   Negate : Act
@@ -46,8 +47,8 @@ abbrev pub push : Expr → Trees → Trees
 push e v = record v { exprs = e ∷ v.exprs }
 
 -- a block that was begun, or read to its end
-abbrev pub block : List Stmt → Trees → Trees
-block b v = record v { blocks = b ∷ v.blocks }
+abbrev pub with_block : List Stmt → Trees → Trees
+with_block b v = record v { blocks = b ∷ v.blocks }
 
 -- statements at the end of the first block
 abbrev pub more_of : List (List Stmt) → List Stmt → List (List Stmt)
@@ -125,7 +126,7 @@ act (Bind u) v = makes_of (λ e. stmt.Let u e) v.exprs v
 act (Assign u) v = makes_of (λ e. stmt.Set u e) v.exprs v
 act (Merge u f) v = makes_of (λ e. stmt.Fold u f e) v.exprs v
 act (Store f) v = store_of f v.places v
-act Begin v = block [] v
+act Begin v = with_block [] v
 act Branch v = branch_of v.blocks v
 act (Repeat at) v = repeat_of at v.blocks v
 act (Each u seq at) v = each_of u seq at v.exprs v.blocks v

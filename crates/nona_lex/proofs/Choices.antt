@@ -3,8 +3,9 @@ use Rattle.std.proofs.Common.{◌≡◌, ℕ, zero, suc, ◌≤◌, Bool, true, 
 use Rattle.std.specs.List.{list_all, take_while}
 use Rattle.std.proofs.lemmas.Bool.Decides.{nat_tests}
 use Rattle.std.proofs.lemmas.List.Sums.{take_while-cons}
-use Rattle.nona_lex.specs.Words.{is_digit, is_letter, is_word_byte}
-use Rattle.nona_lex.specs.Lexis.{piece_of, word_piece, number_piece}
+use Rattle.nona_text.specs.Bytes.{is_digit}
+use Rattle.nona_lex.specs.Words.{is_letter, is_word_byte}
+use Rattle.nona_lex.specs.Lexis.{lexeme_of, word_lexeme, number_lexeme}
 
 -- what holds of each of two values, by the test, holds of the one chosen
 pub either : {A : Type 0} (P : A → Type 0) (c : Bool) (x y : A) → (c ≡ true → P x) → (c ≡ false → P y) → P (if c then x else y)
@@ -21,13 +22,13 @@ second_test true b e = e
 second_test false b e = absurd (cc)
 
 -- a text that begins with a letter begins with a word
-pub at_letter : (b : ℕ) (bs : List ℕ) → is_letter b ≡ true → piece_of b bs ≡ word_piece (take_while is_word_byte (b ∷ bs)) (drop (length (take_while is_word_byte (b ∷ bs))) (b ∷ bs))
-unfolding piece_of
+pub at_letter : (b : ℕ) (bs : List ℕ) → is_letter b ≡ true → lexeme_of b bs ≡ word_lexeme (take_while is_word_byte (b ∷ bs)) (drop (length (take_while is_word_byte (b ∷ bs))) (b ∷ bs))
+unfolding lexeme_of
 at_letter b bs h = grind (arith, nat_tests)
 
 -- a text that begins with a digit begins with a number
-pub at_digit : (b : ℕ) (bs : List ℕ) → is_digit b ≡ true → piece_of b bs ≡ number_piece (take_while is_digit (b ∷ bs))
-unfolding piece_of
+pub at_digit : (b : ℕ) (bs : List ℕ) → is_digit b ≡ true → lexeme_of b bs ≡ number_lexeme (take_while is_digit (b ∷ bs))
+unfolding lexeme_of
 at_digit b bs h = grind (arith, nat_tests)
 
 -- a letter is a byte of words

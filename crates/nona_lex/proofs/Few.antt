@@ -1,16 +1,16 @@
 -- A text has no more tokens than bytes.
 use Rattle.std.proofs.Common.{ℕ, zero, suc, ◌+◌, ◌-◌, ◌≤◌, List, [], ◌∷◌, length, None, Some, arith}
 use Rattle.std.specs.declared.option.Option.{Option}
-use Rattle.nona_lex.specs.declared.pieces.Piece.{Piece}
-use Rattle.nona_lex.specs.declared.pieces.Piece.TheVariants.{Gap, Found, Refused}
+use Rattle.nona_lex.specs.declared.lexemes.Lexeme.{Lexeme}
+use Rattle.nona_lex.specs.declared.lexemes.Lexeme.TheVariants.{Gap, Found, Refused}
 use Rattle.nona_lex.specs.declared.tokens.Cut.{Cut}
 use Rattle.nona_lex.specs.declared.tokens.Spot.{Spot}
 use Rattle.nona_lex.specs.declared.tokens.Tokens.{Tokens}
 use Rattle.nona_lex.specs.Bounds.{Counts, no_counts, behind_token, admitted, bounded_from, tokens_of}
-use Rattle.nona_lex.specs.Lexis.{piece_of, goes_on, lexed_from, lexed}
+use Rattle.nona_lex.specs.Lexis.{lexeme_of, goes_on, lexed_from, lexed}
 
--- a piece is one token at most
-few_on : (p : Piece) (at n : ℕ) (later : ℕ → Tokens) → ((more : ℕ) → length (later more).spots ≤ n) → length (goes_on p at later).spots ≤ n + 1
+-- a lexeme is one token at most
+few_on : (p : Lexeme) (at n : ℕ) (later : ℕ → Tokens) → ((more : ℕ) → length (later more).spots ≤ n) → length (goes_on p at later).spots ≤ n + 1
 few_on (Gap len) at n later few = let h = few (len - 1) in omega arith
 few_on (Found t len) at n later few = let h = few (len - 1) in omega arith
 few_on (Refused f) at n later few = omega arith
@@ -21,7 +21,7 @@ unfolding lexed_from
 few_from passed at [] = omega arith
 few_from (suc passed) at (b ∷ bs) = let h = few_from passed (at + 1) bs in omega arith
 few_from zero at (b ∷ bs) =
-    let h = few_on (piece_of b bs) at (length bs) (λ more. lexed_from more (at + 1) bs) (λ more. few_from more (at + 1) bs) in omega arith
+    let h = few_on (lexeme_of b bs) at (length bs) (λ more. lexed_from more (at + 1) bs) (λ more. few_from more (at + 1) bs) in omega arith
 
 -- a token that may stand is one
 few_admitted : (o : Option Counts) (x : Spot) (n : ℕ) (later : Counts → Tokens) → ((d : Counts) → length (later d).spots ≤ n) → length (admitted o x later).spots ≤ n + 1

@@ -4,3 +4,5 @@ pub mod Lexing
 pub mod Spelled
 pub mod Longest
 pub mod Few
+pub mod Spread
+pub mod TokenNumbers

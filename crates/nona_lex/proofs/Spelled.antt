@@ -13,11 +13,14 @@ use Rattle.nona_lex.specs.declared.tokens.Keyword.TheVariants as keyword
 use Rattle.nona_lex.specs.declared.tokens.Token.{Token}
 use Rattle.nona_lex.specs.declared.tokens.Token.TheVariants as token
 use Rattle.nona_lex.specs.declared.tokens.Fault.TheVariants as fault
-use Rattle.nona_lex.specs.declared.pieces.Piece.{Piece}
-use Rattle.nona_lex.specs.declared.pieces.Piece.TheVariants.{Found, Refused}
-use Rattle.nona_lex.specs.Words.{is_blank, is_digit, is_letter, is_word_byte, number_of, number_bound, word_bound, keyword_of, fold_word}
+use Rattle.nona_lex.specs.declared.lexemes.Lexeme.{Lexeme}
+use Rattle.nona_lex.specs.declared.lexemes.Lexeme.TheVariants.{Found, Refused}
+use Rattle.nona_text.specs.Bytes.{is_blank, is_digit, number_of}
+use Rattle.nona_text.specs.declared.digits.TheConstants.{GREATEST}
+use Rattle.nona_tree.specs.declared.limits.TheConstants.{NAME_BYTES}
+use Rattle.nona_lex.specs.Words.{is_letter, is_word_byte, keyword_of, fold_word}
 use Rattle.nona_lex.specs.Signs.{with_equals, doubled, token_of_two, operator_of_one, sign_of_one, token_of_one, first_of_two}
-use Rattle.nona_lex.specs.Lexis.{piece_of, sign_piece, sign_piece_of, single_piece, word_piece, word_token, fold_or_word, number_piece, begins_with}
+use Rattle.nona_lex.specs.Lexis.{lexeme_of, sign_lexeme, sign_lexeme_of, single_lexeme, word_lexeme, word_token, fold_or_word, number_lexeme, begins_with}
 use Rattle.nona_lex.specs.Spelling.{keyword_text, fold_text, is_word, is_number, Spells}
 use Rattle.nona_lex.specs.Laws.{IsSpelled}
 use Rattle.nona_lex.proofs.Choices.{either, letter_in_word, taken_pass, taken_front}
@@ -81,15 +84,15 @@ first_spelled x None p h k = k
 one_spelled : (b : ℕ) → SpellsSome (b ∷ []) (token_of_one b)
 one_spelled b = first_spelled (b ∷ []) (operator_of_one b) (sign_of_one b) (operator_spelled b) (sign_spelled b)
 
-single_spelled : (b : ℕ) (bs : List ℕ) (o : Option Token) → SpellsSome (b ∷ []) o → IsSpelled (b ∷ bs) (single_piece o)
+single_spelled : (b : ℕ) (bs : List ℕ) (o : Option Token) → SpellsSome (b ∷ []) o → IsSpelled (b ∷ bs) (single_lexeme o)
 single_spelled b bs (Some t) h = h
 single_spelled b bs None h = tt
 
-sign_or_two_spelled : (b c : ℕ) (cs : List ℕ) (o : Option Token) → SpellsSome (b ∷ c ∷ []) o → IsSpelled (b ∷ c ∷ cs) (sign_piece_of o b)
+sign_or_two_spelled : (b c : ℕ) (cs : List ℕ) (o : Option Token) → SpellsSome (b ∷ c ∷ []) o → IsSpelled (b ∷ c ∷ cs) (sign_lexeme_of o b)
 sign_or_two_spelled b c cs (Some t) h = h
 sign_or_two_spelled b c cs None h = single_spelled b (c ∷ cs) (token_of_one b) (one_spelled b)
 
-signs_spelled : (b : ℕ) (bs : List ℕ) → IsSpelled (b ∷ bs) (sign_piece b bs)
+signs_spelled : (b : ℕ) (bs : List ℕ) → IsSpelled (b ∷ bs) (sign_lexeme b bs)
 signs_spelled b [] = single_spelled b [] (token_of_one b) (one_spelled b)
 signs_spelled b (c ∷ cs) = sign_or_two_spelled b c cs (token_of_two b c) (two_spelled b c)
 
@@ -166,16 +169,16 @@ fold_spelled text word None q front h is e =
     subst (λ w. Spells w (word_token (keyword_of word) word)) (sym front) (word_spelled word h (keyword_of word) refl (keyword_is word))
 
 words_spelled : (text word : List ℕ) → take (length word) text ≡ word → is_word word ≡ true
-    → IsSpelled text (word_piece word (drop (length word) text))
+    → IsSpelled text (word_lexeme word (drop (length word) text))
 words_spelled text word front h =
     let equals : Bool = begins_with 61 (drop (length word) text) in
-    either (IsSpelled text) (nat_lt word_bound (length word)) (Refused fault.NameLong) (fold_or_word (fold_word word) equals word) (λ _. tt)
+    either (IsSpelled text) (nat_lt NAME_BYTES (length word)) (Refused fault.NameLong) (fold_or_word (fold_word word) equals word) (λ _. tt)
     (λ _. fold_spelled text word (fold_word word) equals front h (fold_is word) refl)
 
-numbers_spelled : (text digits : List ℕ) → take (length digits) text ≡ digits → is_number digits ≡ true → IsSpelled text (number_piece digits)
+numbers_spelled : (text digits : List ℕ) → take (length digits) text ≡ digits → is_number digits ≡ true → IsSpelled text (number_lexeme digits)
 numbers_spelled text digits front h =
     let t : Token = token.Number (pos (number_of digits)) in
-    either (IsSpelled text) (nat_lt number_bound (number_of digits)) (Refused fault.Number) (Found t (length digits)) (λ _. tt)
+    either (IsSpelled text) (nat_lt GREATEST (number_of digits)) (Refused fault.Number) (Found t (length digits)) (λ _. tt)
     (λ _. subst (λ w. Spells w t) (sym front) (h, refl))
 
 -- the word bytes at a letter are a word, and the digits at a digit a number
@@ -185,10 +188,10 @@ word_taken b bs h = rw (take_while-cons is_word_byte b bs, letter_in_word b h) (
 number_taken : (b : ℕ) (bs : List ℕ) → is_digit b ≡ true → is_number (take_while is_digit (b ∷ bs)) ≡ true
 number_taken b bs h = rw (take_while-cons is_digit b bs, h) (rw h (taken_pass is_digit bs))
 
-pub front_is_spelled : (b : ℕ) (bs : List ℕ) → IsSpelled (b ∷ bs) (piece_of b bs)
-unfolding piece_of
+pub front_is_spelled : (b : ℕ) (bs : List ℕ) → IsSpelled (b ∷ bs) (lexeme_of b bs)
+unfolding lexeme_of
 front_is_spelled b bs =
-    let P : Piece → Type 0 = IsSpelled (b ∷ bs) in
+    let P : Lexeme → Type 0 = IsSpelled (b ∷ bs) in
     either P (is_blank b) _ _ (λ _. tt)
     (λ _. either P (b == 35) _ _ (λ _. tt)
     (λ _. either P (is_letter b) _ _ (λ h. words_spelled (b ∷ bs) _ (taken_front is_word_byte (b ∷ bs)) (word_taken b bs h))

@@ -1,4 +1,4 @@
--- A piece has at least one byte, and no more than the text.
+-- A lexeme has at least one byte, and no more than the text.
 use Rattle.std.proofs.Common.{◌≡◌, ℕ, zero, suc, ◌<◌, ◌≤◌, Bool, true, false, nat_lt, pos, ◌==◌, List, [], ◌∷◌, length, drop, refl, arith, None, Some}
 use Rattle.std.specs.declared.option.Option.{Option}
 use Rattle.std.specs.List.{take_while}
@@ -8,12 +8,15 @@ use Rattle.nona_num.specs.declared.folds.Fold.{Fold}
 use Rattle.nona_lex.specs.declared.tokens.Token.{Token}
 use Rattle.nona_lex.specs.declared.tokens.Token.TheVariants as token
 use Rattle.nona_lex.specs.declared.tokens.Fault.TheVariants as fault
-use Rattle.nona_lex.specs.declared.pieces.Piece.{Piece}
-use Rattle.nona_lex.specs.declared.pieces.Piece.TheVariants.{Found, Refused}
-use Rattle.nona_lex.specs.Words.{is_blank, is_digit, is_letter, is_word_byte, is_comment_byte, number_of, number_bound, word_bound, fold_word}
+use Rattle.nona_lex.specs.declared.lexemes.Lexeme.{Lexeme}
+use Rattle.nona_lex.specs.declared.lexemes.Lexeme.TheVariants.{Found, Refused}
+use Rattle.nona_text.specs.Bytes.{is_blank, is_digit, number_of}
+use Rattle.nona_text.specs.declared.digits.TheConstants.{GREATEST}
+use Rattle.nona_tree.specs.declared.limits.TheConstants.{NAME_BYTES}
+use Rattle.nona_lex.specs.Words.{is_letter, is_word_byte, is_comment_byte, fold_word}
 use Rattle.nona_lex.specs.Signs.{token_of_two, token_of_one}
-use Rattle.nona_lex.specs.Lexis.{piece_of, sign_piece, sign_piece_of, single_piece, word_piece, fold_or_word, number_piece, begins_with}
-use Rattle.nona_lex.specs.Progress.{IsWithin}
+use Rattle.nona_lex.specs.Lexis.{lexeme_of, sign_lexeme, sign_lexeme_of, single_lexeme, word_lexeme, fold_or_word, number_lexeme, begins_with}
+use Rattle.nona_lex.specs.Progress.{FitsIn}
 use Rattle.nona_lex.proofs.Choices.{either, letter_in_word}
 
 -- no more bytes are taken than there are
@@ -26,15 +29,15 @@ taken_most p (b ∷ bs) = rw (take_while-cons p b bs)
 taken_least : (p : ℕ → Bool) (b : ℕ) (bs : List ℕ) → p b ≡ true → 0 < length (take_while p (b ∷ bs))
 taken_least p b bs h = rw (take_while-cons p b bs, h) (omega arith)
 
-single_within : (o : Option Token) (n : ℕ) → IsWithin (single_piece o) (suc n)
+single_within : (o : Option Token) (n : ℕ) → FitsIn (single_lexeme o) (suc n)
 single_within (Some t) n = (omega arith, omega arith)
 single_within None n = tt
 
-two_within : (o : Option Token) (b n : ℕ) → IsWithin (sign_piece_of o b) (suc (suc n))
+two_within : (o : Option Token) (b n : ℕ) → FitsIn (sign_lexeme_of o b) (suc (suc n))
 two_within (Some t) b n = (omega arith, omega arith)
 two_within None b n = single_within (token_of_one b) (suc n)
 
-sign_within : (b : ℕ) (bs : List ℕ) → IsWithin (sign_piece b bs) (length (b ∷ bs))
+sign_within : (b : ℕ) (bs : List ℕ) → FitsIn (sign_lexeme b bs) (length (b ∷ bs))
 sign_within b [] = single_within (token_of_one b) 0
 sign_within b (c ∷ cs) = two_within (token_of_two b c) b (length cs)
 
@@ -46,29 +49,29 @@ equals_within (suc n) [] h = absurd (cc)
 equals_within (suc n) (b ∷ bs) h = let more = equals_within n bs h in omega arith
 
 fold_within : (text word : List ℕ) (o : Option Fold) (q : Bool) → 0 < length word → length word ≤ length text
-    → begins_with 61 (drop (length word) text) ≡ q → IsWithin (fold_or_word o q word) (length text)
+    → begins_with 61 (drop (length word) text) ≡ q → FitsIn (fold_or_word o q word) (length text)
 fold_within text word (Some f) true p w e = let more = equals_within (length word) text e in (omega arith, omega arith)
 fold_within text word (Some f) false p w e = (p, w)
 fold_within text word None q p w e = (p, w)
 
-word_within : (text word : List ℕ) → 0 < length word → length word ≤ length text → IsWithin (word_piece word (drop (length word) text)) (length text)
+word_within : (text word : List ℕ) → 0 < length word → length word ≤ length text → FitsIn (word_lexeme word (drop (length word) text)) (length text)
 word_within text word p w =
     let equals : Bool = begins_with 61 (drop (length word) text) in
-    either (λ x. IsWithin x (length text)) (nat_lt word_bound (length word)) (Refused fault.NameLong) (fold_or_word (fold_word word) equals word) (λ _. tt)
+    either (λ x. FitsIn x (length text)) (nat_lt NAME_BYTES (length word)) (Refused fault.NameLong) (fold_or_word (fold_word word) equals word) (λ _. tt)
     (λ _. fold_within text word (fold_word word) equals p w refl)
 
-number_within : (digits : List ℕ) (n : ℕ) → 0 < length digits → length digits ≤ n → IsWithin (number_piece digits) n
+number_within : (digits : List ℕ) (n : ℕ) → 0 < length digits → length digits ≤ n → FitsIn (number_lexeme digits) n
 number_within digits n p w =
     let t : Token = token.Number (pos (number_of digits)) in
-    either (λ x. IsWithin x n) (nat_lt number_bound (number_of digits)) (Refused fault.Number) (Found t (length digits)) (λ _. tt) (λ _. (p, w))
+    either (λ x. FitsIn x n) (nat_lt GREATEST (number_of digits)) (Refused fault.Number) (Found t (length digits)) (λ _. tt) (λ _. (p, w))
 
 hash_in_comment : (b : ℕ) → (b == 35) ≡ true → is_comment_byte b ≡ true
 hash_in_comment b h = grind (arith, nat_tests)
 
-pub piece_within : (b : ℕ) (bs : List ℕ) → IsWithin (piece_of b bs) (length (b ∷ bs))
-unfolding piece_of
-piece_within b bs =
-    let P : Piece → Type 0 = λ x. IsWithin x (length (b ∷ bs)) in
+pub lexeme_within : (b : ℕ) (bs : List ℕ) → FitsIn (lexeme_of b bs) (length (b ∷ bs))
+unfolding lexeme_of
+lexeme_within b bs =
+    let P : Lexeme → Type 0 = λ x. FitsIn x (length (b ∷ bs)) in
     either P (is_blank b) _ _ (λ _. (omega arith, omega arith))
     (λ _. either P (b == 35) _ _ (λ h. (taken_least is_comment_byte b bs (hash_in_comment b h), taken_most is_comment_byte (b ∷ bs)))
     (λ _. either P (is_letter b) _ _

@@ -9,15 +9,8 @@ use Rattle.nona_lex.specs.declared.tokens.Fault.TheVariants as fault
 use Rattle.nona_lex.specs.declared.tokens.Spot.{Spot}
 use Rattle.nona_lex.specs.declared.tokens.Cut.{Cut}
 use Rattle.nona_lex.specs.declared.tokens.Tokens.{Tokens}
+use Rattle.nona_lex.specs.declared.bounds.TheConstants.{BRACKETS, OPERATORS}
 use Rattle.nona_lex.specs.Lexis.{with_spot, cut_off, lexed}
-
--- the most brackets that are open at once
-abbrev pub bracket_bound : ℕ
-bracket_bound = 64
-
--- the most operators of one count
-abbrev pub operator_bound : ℕ
-operator_bound = 64
 
 -- the count of operators, and the counts before each open bracket, newest first
 pub record Counts : Type 0 where
@@ -29,14 +22,14 @@ abbrev pub no_counts : Counts
 no_counts = record { operators = 0; outside = [] }
 
 -- behind an opening bracket, where one more may be open
-abbrev pub opened : Counts → Option Counts
-opened c =
-    if nat_lt (length c.outside) bracket_bound then Some (record { operators = 0; outside = c.operators ∷ c.outside })
+abbrev pub behind_opening : Counts → Option Counts
+behind_opening c =
+    if nat_lt (length c.outside) BRACKETS then Some (record { operators = 0; outside = c.operators ∷ c.outside })
     else None
 
 -- behind an operator, where one more may stand
-abbrev pub operated : Counts → Option Counts
-operated c = if nat_lt c.operators operator_bound then Some (record c { operators = c.operators + 1 }) else None
+abbrev pub behind_operator : Counts → Option Counts
+behind_operator c = if nat_lt c.operators OPERATORS then Some (record c { operators = c.operators + 1 }) else None
 
 -- the counts where the newest bracket, if one is open, no longer is
 abbrev pub closed_to : ℕ → List ℕ → Counts
@@ -44,8 +37,8 @@ closed_to operators [] = record { operators = operators; outside = [] }
 closed_to operators (n ∷ outside) = record { operators = n; outside = outside }
 
 -- behind a closing bracket; one that closes nothing changes nothing
-abbrev pub closed : Counts → Counts
-closed c = closed_to c.operators c.outside
+abbrev pub behind_closing : Counts → Counts
+behind_closing c = closed_to c.operators c.outside
 
 -- with the count at 0 again
 abbrev pub restarted : Counts → Counts
@@ -53,12 +46,12 @@ restarted c = record c { operators = 0 }
 
 -- the counts behind a sign, where it may stand
 abbrev pub behind_sign : Sign → Counts → Option Counts
-behind_sign sign.Open c = opened c
-behind_sign sign.OpenIndex c = opened c
-behind_sign sign.OpenBlock c = opened c
-behind_sign sign.Close c = Some (closed c)
-behind_sign sign.CloseIndex c = Some (closed c)
-behind_sign sign.CloseBlock c = Some (restarted (closed c))
+behind_sign sign.Open c = behind_opening c
+behind_sign sign.OpenIndex c = behind_opening c
+behind_sign sign.OpenBlock c = behind_opening c
+behind_sign sign.Close c = Some (behind_closing c)
+behind_sign sign.CloseIndex c = Some (behind_closing c)
+behind_sign sign.CloseBlock c = Some (restarted (behind_closing c))
 behind_sign sign.Semicolon c = Some (restarted c)
 behind_sign sign.Set c = Some c
 behind_sign sign.Comma c = Some c
@@ -67,7 +60,7 @@ behind_sign sign.Range c = Some c
 -- the counts behind a token, where it may stand
 abbrev pub behind_token : Token → Counts → Option Counts
 behind_token (token.Sign s) c = behind_sign s c
-behind_token (token.Operator o) c = operated c
+behind_token (token.Operator o) c = behind_operator c
 behind_token (token.Word k) c = Some c
 behind_token (token.Name n) c = Some c
 behind_token (token.Number v) c = Some c

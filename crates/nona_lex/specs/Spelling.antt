@@ -11,7 +11,8 @@ use Rattle.nona_lex.specs.declared.tokens.Sign.{Sign}
 use Rattle.nona_lex.specs.declared.tokens.Sign.TheVariants as sign
 use Rattle.nona_lex.specs.declared.tokens.Token.{Token}
 use Rattle.nona_lex.specs.declared.tokens.Token.TheVariants as token
-use Rattle.nona_lex.specs.Words.{is_digit, is_letter, is_word_byte, number_of}
+use Rattle.nona_text.specs.Bytes.{is_digit, number_of}
+use Rattle.nona_lex.specs.Words.{is_letter, is_word_byte}
 
 -- the text of a reserved word
 abbrev pub keyword_text : Keyword → List ℕ

@@ -1,19 +1,12 @@
--- Bytes of one kind, and what words and digits are.
-use Rattle.std.specs.Prelude.{ℕ, ◌+◌, ◌-◌, ◌*◌, Bool, not, ◌&&◌, ◌||◌, ◌==◌, nat_le, List, fold, None, Some, if◌then◌else◌, codes}
+-- Bytes of one kind, and what words are.
+use Rattle.std.specs.Prelude.{ℕ, Bool, not, ◌&&◌, ◌||◌, ◌==◌, nat_le, List, None, Some, if◌then◌else◌, codes}
 use Rattle.std.specs.declared.option.Option.{Option}
 use Rattle.std.specs.Str.{bytes_eq}
+use Rattle.nona_text.specs.Bytes.{is_digit}
 use Rattle.nona_num.specs.declared.folds.Fold.{Fold}
 use Rattle.nona_num.specs.declared.folds.Fold.TheVariants as folds
 use Rattle.nona_lex.specs.declared.tokens.Keyword.{Keyword}
 use Rattle.nona_lex.specs.declared.tokens.Keyword.TheVariants as keyword
-
--- a space, a tab, an LF or a CR
-abbrev pub is_blank : ℕ → Bool
-is_blank b = (b == 32) || (b == 9) || (b == 10) || (b == 13)
-
--- a digit
-abbrev pub is_digit : ℕ → Bool
-is_digit b = nat_le 48 b && nat_le b 57
 
 -- a lowercase letter
 abbrev pub is_letter : ℕ → Bool
@@ -26,18 +19,6 @@ is_word_byte b = is_letter b || is_digit b || (b == 95)
 -- a byte that leaves a comment open
 abbrev pub is_comment_byte : ℕ → Bool
 is_comment_byte b = not (b == 10)
-
--- the number that digits spell
-abbrev pub number_of : List ℕ → ℕ
-number_of digits = fold (λ n d. n * 10 + (d - 48)) 0 digits
-
--- the greatest number of the language
-abbrev pub number_bound : ℕ
-number_bound = 9223372036854775807
-
--- the most bytes of a word
-abbrev pub word_bound : ℕ
-word_bound = 32
 
 -- the reserved word that is spelled so
 unfoldable pub keyword_of : List ℕ → Option Keyword

@@ -1,16 +1,18 @@
 // The counts of open brackets and of operators.
 
 ghost use Rattle.std.specs.Prelude.{◌≡◌, IfOk, None, Some, true};
-ghost use Rattle.nona_lex.specs.Bounds.{no_counts, opened, operated, closed, restarted, behind_sign, behind_token};
+ghost use Rattle.nona_lex.specs.Bounds.{no_counts, behind_opening, behind_operator, behind_closing, restarted, behind_sign, behind_token};
 ghost use Rattle.nona_lex.specs.Progress.{counts_of, if_admitted};
 
 use crate::tokens::{Sign, Token};
 use sqlite_items::Items;
 use std::alloc::{AllocError, Global};
 
-const BRACKETS: usize = 64;
+/// The most brackets that are open at once.
+pub const BRACKETS: usize = 64;
 
-const OPERATORS: usize = 64;
+/// The most operators of one count.
+pub const OPERATORS: usize = 64;
 
 /// Where a token stands: the operators of its count, and those of the count before each open bracket.
 #[derive(Debug, Drop)]
@@ -58,7 +60,7 @@ impl Counter {
     }
 
     fn open(&mut self) -> Result<bool, AllocError>
-        ensures { IfOk result (λ b. if_admitted b self.new ≡ opened (counts_of self.old)) }
+        ensures { IfOk result (λ b. if_admitted b self.new ≡ behind_opening (counts_of self.old)) }
     {
         if self.outside.len() >= BRACKETS {
             return Ok(false);
@@ -69,7 +71,7 @@ impl Counter {
     }
 
     fn operate(&mut self) -> bool
-        ensures { if_admitted result self.new ≡ operated (counts_of self.old) }
+        ensures { if_admitted result self.new ≡ behind_operator (counts_of self.old) }
     {
         if self.operators >= OPERATORS {
             return false;
@@ -79,7 +81,7 @@ impl Counter {
     }
 
     fn close(&mut self)
-        ensures { counts_of self.new ≡ closed (counts_of self.old) }
+        ensures { counts_of self.new ≡ behind_closing (counts_of self.old) }
     {
         if let Some(operators) = self.outside.pop() {
             self.operators = operators;

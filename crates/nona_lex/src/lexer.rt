@@ -4,7 +4,7 @@ ghost use Rattle.std.specs.Prelude.{◌≡◌, ◌<◌, ◌^◌, length, IfOk};
 ghost use Rattle.nona_lex.specs.Bounds.{tokens_of};
 
 use crate::bounds::Counter;
-use crate::pieces::{Piece, first_piece};
+use crate::lexemes::{Lexeme, first_lexeme};
 use crate::tokens::{Cut, Fault, Spot, Tokens};
 use sqlite_items::Items;
 use std::alloc::{AllocError, Global};
@@ -22,16 +22,16 @@ pub fn read_tokens(alloc: Global, text: &[u8]) -> Result<Tokens, AllocError>
     while at < text.len() {
         let (_, rest) = text.split_at(at);
         let place = at as u32;
-        match first_piece(rest) {
-            Piece::Gap(len) => at += len,
-            Piece::Found(token, len) => {
+        match first_lexeme(rest) {
+            Lexeme::Gap(len) => at += len,
+            Lexeme::Found(token, len) => {
                 if !counter.admits(&token)? {
                     return Ok(cut_at(spots, Fault::Deep, place));
                 }
                 spots.push(Spot { token, at: place })?;
                 at += len;
             }
-            Piece::Refused(fault) => return Ok(cut_at(spots, fault, place)),
+            Lexeme::Refused(fault) => return Ok(cut_at(spots, fault, place)),
         }
     }
     Ok(Tokens { spots, cut: None })

@@ -1,6 +1,7 @@
 -- How a run ends, and the regions that it comes to on the way.
-use Rattle.std.specs.Prelude.{ℕ, List, [], ◌∷◌, ◌++◌}
+use Rattle.std.specs.Prelude.{ℕ, Bool, List, [], ◌∷◌, ◌++◌}
 use Rattle.nona_tree.specs.declared.outcomes.Outcome.{Outcome}
+use Rattle.nona_tree.specs.declared.trees.Loop.{Loop}
 use Rattle.nona_tree.specs.declared.trees.Stmt.{Stmt}
 use Rattle.nona_tree.specs.Memory.{Memory}
 use Rattle.nona_tree.specs.Run.{Ran, run_all}
@@ -23,6 +24,6 @@ joined first later = record { ran = (later first.ran).ran; entries = first.entri
 abbrev pub opens : Opened → Course → Course
 opens entry rest = record { ran = rest.ran; entries = entry ∷ rest.entries }
 
--- the course of one statement after another, where the first region in their text has this number
-abbrev pub course_of : ℕ → List Stmt → ℕ → Memory → Course
-course_of first ss n m = record { ran = run_all ss n m; entries = entries_all first ss n m }
+-- the course of one statement after another, whose regions are chosen by this test and where the first has this number
+abbrev pub course_of : (Loop → Bool) → ℕ → List Stmt → ℕ → Memory → Course
+course_of chosen first ss n m = record { ran = run_all ss n m; entries = entries_all chosen first ss n m }

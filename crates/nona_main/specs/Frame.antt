@@ -6,7 +6,7 @@ use Rattle.nona_tree.specs.declared.trees.Loop.{Loop}
 use Rattle.nona_tree.specs.declared.trees.Stmt.{For}
 use Rattle.nona_tree.specs.Memory.{Memory, Extends}
 use Rattle.nona_tree.specs.Value.{value_of}
-use Rattle.nona_tree.specs.Run.{Ran, run}
+use Rattle.nona_tree.specs.Run.{Ran, run, done}
 use Rattle.nona_tree.specs.Scope.{IsScoped}
 use Rattle.nona_tree.specs.Entries.{Opened}
 use Rattle.nona_main.specs.declared.frame.Stop.{Stop}
@@ -33,6 +33,10 @@ abbrev pub Stops : (Ran → Course → Type 0) → Course → ℕ → Stop → M
 Stops left course n (stop.Region number low high) m = IsAtRegion left course number low high m n
 Stops left course n (stop.Ended end) m = course ≡ ended m end
 
+-- a frame went on from the first store and has stopped in the second, and what was left before and after is so
+abbrev pub NextStops : (Ran → Course → Type 0) → (Ran → Course → Type 0) → ℕ → Memory → Stop → Memory → Type 0
+NextStops before after n m stop r = (course : Course) → before (done m) course → Stops after course n stop r
+
 -- a frame that has stopped at a region can go on
 abbrev pub StaysReady : (ℕ → ℕ → Type 0) → Stop → Memory → Type 0
 StaysReady ready (stop.Region number low high) m = ready (length m.scalars) (length m.arrays)
@@ -41,8 +45,10 @@ StaysReady ready (stop.Ended end) m = Unit {0}
 -- after an end other than done, nothing is left but that the blocks around drop their scalars
 abbrev pub Leaves : (ℕ → Ran → Course → Type 0) → Memory → Memory → Type 0
 Leaves left old new =
-    (n : ℕ) (end : Outcome) (course : Course) → end ≢ outcome.Done → left n (record { store = old; end = end }) course → course ≡ ended new end
+    (n : ℕ) (end : Outcome) (course : Course) → end ≢ outcome.Done
+    → left n (record { store = old; end = end }) course → course ≡ ended new end
 
 -- what is left only adds to what is printed
 abbrev pub OnlyPrints : {F : Type 0} → (F → ℕ → Ran → Course → Type 0) → Type 0
-OnlyPrints {F} left = (frame : F) (n : ℕ) (r : Ran) (course : Course) → left frame n r course → Extends r.store.printed course.ran.store.printed
+OnlyPrints {F} left =
+    (frame : F) (n : ℕ) (r : Ran) (course : Course) → left frame n r course → Extends r.store.printed course.ran.store.printed

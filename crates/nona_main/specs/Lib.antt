@@ -1,8 +1,2 @@
 pub mod Course
 pub mod Frame
-pub mod Marks
-pub mod Tasks
-pub mod Steps
-pub mod Costs
-pub mod Left
-pub mod Prints

@@ -1,8 +1,8 @@
 ghost use Rattle.std.specs.Prelude.{◌≡◌, ℕ, length, IfOk, OnOk};
 ghost use Rattle.nona_tree.specs.Memory.{Memory, Extends};
-ghost use Rattle.nona_tree.specs.Run.{Ran, done};
+ghost use Rattle.nona_tree.specs.Run.{Ran};
 ghost use Rattle.nona_main.specs.Course.{Course};
-ghost use Rattle.nona_main.specs.Frame.{Stops, StaysReady, Leaves, OnlyPrints};
+ghost use Rattle.nona_main.specs.Frame.{NextStops, StaysReady, Leaves, OnlyPrints};
 
 use nona_store::Store;
 use nona_tree::Outcome;
@@ -33,7 +33,7 @@ pub trait MainFrame {
     /// error comes where memory runs out, and the frame and the store are then spent.
     fn next(&mut self, turns: u64, store: &mut Store) -> Result<Stop, AllocError>
         requires ready { Self.ready self.old turns (length store.old.scalars) (length store.old.arrays) }
-        ensures stops { IfOk result (λ stop. (course : Course) → Self.left self.old turns (done store.old) course → Stops (Self.left self.new turns) course turns stop store.new) }
+        ensures stops { IfOk result (λ stop. NextStops (Self.left self.old turns) (Self.left self.new turns) turns store.old stop store.new) }
         ensures ready { IfOk result (λ stop. StaysReady (Self.ready self.new turns) stop store.new) }
         ensures prints { OnOk result (Extends store.old.printed store.new.printed) };
 

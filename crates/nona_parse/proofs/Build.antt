@@ -7,7 +7,7 @@ use Rattle.nona_lex.specs.declared.tokens.Spot.{Spot}
 use Rattle.nona_tree.specs.declared.trees.Expr.{Expr}
 use Rattle.nona_grammar.specs.Levels.{spot}
 use Rattle.nona_grammar.specs.Stack.{Trees, Begin, Negate, Invert, push}
-use Rattle.nona_grammar.specs.Machine.{Sym, Do, Want, Block, Stmts, CellsOpen, Cells, LenOpen, LenName, Level, Tail, want, block_next, cells_open, len_open, next, chosen, after, build}
+use Rattle.nona_grammar.specs.Machine.{Sym, Do, Want, Block, Stmts, CellsOpen, Cells, LenOpen, LenName, Level, Tail, want, block_next, cells_open, len_open, next, expanded, behind_step, build}
 use Rattle.nona_grammar.proofs.Machining.{took, acted, level_is}
 use Rattle.nona_parse.specs.declared.fault.ReadFault.{ReadFault}
 use Rattle.nona_parse.specs.declared.fault.ReadFault.TheVariants.{Syntax, Ended, NoMemory}
@@ -46,30 +46,30 @@ prefix_done Not e end k v ss = acted end Invert k (push e v) ss
 prefix_done Nothing e end k v ss = refl
 
 -- a block is its bracket, and what comes behind it
-block_opened : (t : Token) (k : List Sym) (v : Trees) → chosen (block_next t) k v None ≡ chosen (want sign.OpenBlock t) (Do Begin ∷ Stmts ∷ Want sign.CloseBlock ∷ k) v None
+block_opened : (t : Token) (k : List Sym) (v : Trees) → expanded (block_next t) k v None ≡ expanded (want sign.OpenBlock t) (Do Begin ∷ Stmts ∷ Want sign.CloseBlock ∷ k) v None
 block_opened (token.Sign sign.OpenBlock) k v = refl
 block_opened _ k v = refl
 
 pub block_is : (end : ℕ) (k : List Sym) (v : Trees) (ss : List Spot)
     → build end (Block ∷ k) v ss ≡ build end (Want sign.OpenBlock ∷ Do Begin ∷ Stmts ∷ Want sign.CloseBlock ∷ k) v ss
 block_is end k v [] = refl
-block_is end k v (s ∷ ss) = ap (λ o. after o s.at (λ l u. build end l u ss)) (block_opened s.token k v)
+block_is end k v (s ∷ ss) = ap (λ o. behind_step o s.at (λ l u. build end l u ss)) (block_opened s.token k v)
 
 -- the number of cells stands behind a bracket
-cells_opened : (n : List ℕ) (a : ℕ) (t : Token) (k : List Sym) (v : Trees) → chosen (cells_open n a t) k v None ≡ chosen (want sign.OpenIndex t) (Cells n a ∷ k) v None
+cells_opened : (n : List ℕ) (a : ℕ) (t : Token) (k : List Sym) (v : Trees) → expanded (cells_open n a t) k v None ≡ expanded (want sign.OpenIndex t) (Cells n a ∷ k) v None
 cells_opened n a (token.Sign sign.OpenIndex) k v = refl
 cells_opened n a _ k v = refl
 
 pub cells_are : (n : List ℕ) (a end : ℕ) (k : List Sym) (v : Trees) (ss : List Spot)
     → build end (CellsOpen n a ∷ k) v ss ≡ build end (Want sign.OpenIndex ∷ Cells n a ∷ k) v ss
 cells_are n a end k v [] = refl
-cells_are n a end k v (s ∷ ss) = ap (λ o. after o s.at (λ l u. build end l u ss)) (cells_opened n a s.token k v)
+cells_are n a end k v (s ∷ ss) = ap (λ o. behind_step o s.at (λ l u. build end l u ss)) (cells_opened n a s.token k v)
 
 -- the name of an array stands behind a bracket
-len_opened : (t : Token) (k : List Sym) (v : Trees) → chosen (len_open t) k v None ≡ chosen (want sign.Open t) (LenName ∷ k) v None
+len_opened : (t : Token) (k : List Sym) (v : Trees) → expanded (len_open t) k v None ≡ expanded (want sign.Open t) (LenName ∷ k) v None
 len_opened (token.Sign sign.Open) k v = refl
 len_opened _ k v = refl
 
 pub len_is : (end : ℕ) (k : List Sym) (v : Trees) (ss : List Spot) → build end (LenOpen ∷ k) v ss ≡ build end (Want sign.Open ∷ LenName ∷ k) v ss
 len_is end k v [] = refl
-len_is end k v (s ∷ ss) = ap (λ o. after o s.at (λ l u. build end l u ss)) (len_opened s.token k v)
+len_is end k v (s ∷ ss) = ap (λ o. behind_step o s.at (λ l u. build end l u ss)) (len_opened s.token k v)

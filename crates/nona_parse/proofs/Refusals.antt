@@ -3,7 +3,8 @@ use Rattle.std.proofs.Common.{◌≡◌, ℕ, ◌+◌, ◌^◌, ◌<◌, ◌≤�
 use Rattle.std.specs.Prelude.{◌⊎◌, MatchResult}
 use Rattle.std.specs.declared.option.Option.{Option}
 use Rattle.std.specs.declared.result.Result.{Result}
-use Rattle.nona_lex.specs.Bounds.{bounded, bracket_bound, tokens_of}
+use Rattle.nona_lex.specs.declared.bounds.TheConstants.{BRACKETS}
+use Rattle.nona_lex.specs.Bounds.{bounded, tokens_of}
 use Rattle.nona_lex.specs.Lexis.{lexed}
 use Rattle.nona_lex.specs.declared.tokens.Cut.{Cut}
 use Rattle.nona_lex.specs.declared.tokens.Fault.{Fault}
@@ -13,24 +14,24 @@ use Rattle.nona_lex.specs.declared.tokens.Tokens.{Tokens}
 use Rattle.nona_tree.specs.Smallness.{IsSmall, size_of, nesting_of}
 use Rattle.nona_tree.specs.declared.trees.Program.{Program}
 use Rattle.nona_tree.specs.declared.trees.Stmt.{Stmt}
-use Rattle.nona_grammar.specs.Faults.{IsFront, StopsAt, IsShort, FirstFault, IsText, FaultAt}
+use Rattle.nona_grammar.specs.Faults.{IsViable, StopsAt, IsShort, FirstFault, IsText, FaultAt}
 use Rattle.nona_grammar.specs.Grammar.{IsProgram}
-use Rattle.nona_grammar.specs.Machine.{Decls, Stmts, build}
-use Rattle.nona_grammar.specs.Stack.{Trees, empty, whole_of}
+use Rattle.nona_grammar.specs.Machine.{built}
+use Rattle.nona_grammar.specs.Stack.{Trees, whole_of}
 use Rattle.nona_parse.specs.declared.fault.ParseFault.{ParseFault}
 use Rattle.nona_parse.specs.declared.fault.ParseFault.TheVariants as parse
 use Rattle.nona_parse.specs.declared.fault.ReadFault.{ReadFault}
 use Rattle.nona_parse.specs.declared.fault.ReadFault.TheVariants.{Syntax, Ended, NoMemory}
 use Rattle.nona_parse.specs.Reading.{IsReading, IsRefusal, IsCutAt, IsSyntaxBefore}
-use Rattle.nona_parse.specs.Steps.{IsStuck, IsUnread, fault_of}
+use Rattle.nona_parse.specs.Steps.{IsStuck, IsUnread, refusal_of}
 
 -- the law that no list of tokens is read as what is no program
 abbrev pub Sound : Type 0
-Sound = (end : ℕ) (ss : List Spot) (out : Trees) → build end (Decls ∷ Stmts ∷ []) empty ss ≡ Ok out → (p : Program) × IsProgram ss p × (out ≡ whole_of p)
+Sound = (end : ℕ) (ss : List Spot) (out : Trees) → built end ss ≡ Ok out → (p : Program) × IsProgram ss p × (out ≡ whole_of p)
 
 -- the law of the machine's faults
 abbrev pub Exact : Type 0
-Exact = (end : ℕ) (ss : List Spot) (at : ℕ) → build end (Decls ∷ Stmts ∷ []) empty ss ≡ Err at → FaultAt end ss at
+Exact = (end : ℕ) (ss : List Spot) (at : ℕ) → built end ss ≡ Err at → FaultAt end ss at
 
 -- the outermost block
 outermost : List (List Stmt) → List Stmt
@@ -43,7 +44,7 @@ unfolding outermost
 one_whole p q is = ap (λ (v : Trees). record { arrays = v.arrays; vars = v.vars; body = outermost v.blocks }) (sym is)
 
 -- what the machine reads is a program
-pub read_sound : Sound → (ss : List Spot) (p : Program) → ((end : ℕ) → build end (Decls ∷ Stmts ∷ []) empty ss ≡ Ok (whole_of p)) → IsProgram ss p
+pub read_sound : Sound → (ss : List Spot) (p : Program) → ((end : ℕ) → built end ss ≡ Ok (whole_of p)) → IsProgram ss p
 read_sound sound ss p built = let s = sound 0 ss (whole_of p) (built 0) in subst (λ q. IsProgram ss q) (one_whole p s.0 s.2) s.1
 
 -- a place behind those of all tokens
@@ -102,15 +103,15 @@ refused_program text p (parse.Syntax at) read refusal = absurd (no_syntax (token
 refused_program text p parse.NoMemory read refusal = refl
 
 -- the tokens before a cut are refused for its fault
-pub cut_refused : (text : List ℕ) (f : Fault) (at : ℕ) → Some (record { fault = f; at = at }) ≡ (tokens_of text).cut → IsFront IsText (tokens_of text).spots
-    → IsRefusal text (fault_of f at)
+pub cut_refused : (text : List ℕ) (f : Fault) (at : ℕ) → Some (record { fault = f; at = at }) ≡ (tokens_of text).cut → IsViable IsText (tokens_of text).spots
+    → IsRefusal text (refusal_of f at)
 cut_refused text lex.Byte at is front = (sym is, front)
 cut_refused text lex.Number at is front = (sym is, front)
 cut_refused text lex.NameLong at is front = (sym is, front)
 cut_refused text lex.Deep at is front = (sym is, front)
 
 -- a program is the front of one
-pub whole_front : (ss : List Spot) (p : Program) → IsProgram ss p → IsFront IsText ss
+pub whole_front : (ss : List Spot) (p : Program) → IsProgram ss p → IsViable IsText ss
 whole_front ss p program = ([], (p, subst (λ (l : List Spot). IsProgram l p) (sym (append-nil ss)) program))
 
 -- the law that no tokens are two programs
@@ -132,7 +133,7 @@ abbrev pub FitsTokens : Type 0
 FitsTokens = (ss : List Spot) (p : Program) → IsProgram ss p → size_of p ≤ length ss
 
 abbrev pub FitsBrackets : Type 0
-FitsBrackets = (tokens : Tokens) (p : Program) → IsProgram (bounded tokens).spots p → nesting_of p ≤ bracket_bound
+FitsBrackets = (tokens : Tokens) (p : Program) → IsProgram (bounded tokens).spots p → nesting_of p ≤ BRACKETS
 
 -- the program of a text of at most 2^20 bytes is small
 pub small_program : Few → FitsTokens → FitsBrackets → (text : List ℕ) (p : Program) → length text ≤ 2 ^ 20 → IsReading text p → IsSmall p

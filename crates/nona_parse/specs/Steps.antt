@@ -1,5 +1,6 @@
--- What a function says of the tokens that it takes: how the machine goes on there, wherever the text ends, whatever is to come behind them and whatever was read before.
-use Rattle.std.specs.Prelude.{◌≡◌, ℕ, List, [], ◌∷◌, ◌++◌, Err}
+-- What a function says of the tokens that it takes: how the machine goes on there, wherever the text ends, whatever is to come
+-- behind them and whatever was read before.
+use Rattle.std.specs.Prelude.{◌≡◌, ℕ, List, ◌∷◌, ◌++◌, Err}
 use Rattle.nona_lex.specs.declared.tokens.Fault.{Fault}
 use Rattle.nona_lex.specs.declared.tokens.Fault.TheVariants as lex
 use Rattle.nona_lex.specs.declared.tokens.Spot.{Spot}
@@ -7,8 +8,8 @@ use Rattle.nona_tree.specs.declared.trees.Access.{Access}
 use Rattle.nona_tree.specs.declared.trees.ArrayDecl.{ArrayDecl}
 use Rattle.nona_tree.specs.declared.trees.VarDecl.{VarDecl}
 use Rattle.nona_grammar.specs.Faults.{IsShort, IsText, StopsAt}
-use Rattle.nona_grammar.specs.Stack.{Trees, empty}
-use Rattle.nona_grammar.specs.Machine.{Sym, Decls, Stmts, build}
+use Rattle.nona_grammar.specs.Stack.{Trees}
+use Rattle.nona_grammar.specs.Machine.{Sym, build, built}
 use Rattle.nona_parse.specs.declared.fault.ParseFault.{ParseFault}
 use Rattle.nona_parse.specs.declared.fault.ParseFault.TheVariants as parse
 use Rattle.nona_parse.specs.declared.fault.ReadFault.{ReadFault}
@@ -31,8 +32,8 @@ abbrev pub Reads : List Sym → List Spot → (Trees → Trees) → List Spot �
 Reads new ss f rest = (end : ℕ) (k : List Sym) (v : Trees) → build end (new ++ k) v ss ≡ build end k (f v) rest
 
 -- these symbols take the tokens up to the rest behind trees of the first kind, and make trees of the second kind
-abbrev pub GoesOn : List Sym → (Trees → Trees) → List Spot → (Trees → Trees) → List Spot → Type 0
-GoesOn new f ss g rest = (end : ℕ) (k : List Sym) (v : Trees) → build end (new ++ k) (f v) ss ≡ build end k (g v) rest
+abbrev pub ReadsBehind : List Sym → (Trees → Trees) → List Spot → (Trees → Trees) → List Spot → Type 0
+ReadsBehind new f ss g rest = (end : ℕ) (k : List Sym) (v : Trees) → build end (new ++ k) (f v) ss ≡ build end k (g v) rest
 
 -- in the place of a symbol before these tokens, others are to come before the rest
 abbrev pub Turns : Sym → List Spot → List Sym → List Spot → Type 0
@@ -47,8 +48,8 @@ Fails (Syntax at) new ss = (end : ℕ) (k : List Sym) (v : Trees) → build end 
 -- at these tokens the machine is stuck at a place, or at the text's end wherever it is, or memory has run out
 abbrev pub IsStuck : ReadFault → List Spot → Type 0
 IsStuck NoMemory ss = Unit {0}
-IsStuck Ended ss = (end : ℕ) → build end (Decls ∷ Stmts ∷ []) empty ss ≡ Err end
-IsStuck (Syntax at) ss = (end : ℕ) → build end (Decls ∷ Stmts ∷ []) empty ss ≡ Err at
+IsStuck Ended ss = (end : ℕ) → built end ss ≡ Err end
+IsStuck (Syntax at) ss = (end : ℕ) → built end ss ≡ Err at
 
 -- these tokens are no program: one of them fits nowhere, or they are only the front of one; or memory has run out
 abbrev pub IsUnread : ReadFault → List Spot → Type 0
@@ -56,9 +57,9 @@ IsUnread NoMemory ss = Unit {0}
 IsUnread Ended ss = IsShort IsText ss
 IsUnread (Syntax at) ss = StopsAt IsText ss at
 
--- the fault of a cut at a place
-abbrev pub fault_of : Fault → ℕ → ParseFault
-fault_of lex.Byte at = parse.Byte at
-fault_of lex.Number at = parse.Number at
-fault_of lex.NameLong at = parse.NameLong at
-fault_of lex.Deep at = parse.Deep at
+-- the refusal for a cut at a place
+abbrev pub refusal_of : Fault → ℕ → ParseFault
+refusal_of lex.Byte at = parse.Byte at
+refusal_of lex.Number at = parse.Number at
+refusal_of lex.NameLong at = parse.NameLong at
+refusal_of lex.Deep at = parse.Deep at

@@ -1,7 +1,7 @@
 // Statements with blocks, and lists of statements.
 
 ghost use Rattle.std.specs.Prelude.{◌≡◌, ◌<◌, ◌≤◌, ◌∷◌, [], true, false, length, IfOk, IfSome, MatchOption, MatchResult};
-ghost use Rattle.nona_grammar.specs.Stack.{Branch, Repeat, push, adds, block, act};
+ghost use Rattle.nona_grammar.specs.Stack.{Branch, Repeat, push, adds, with_block, act};
 ghost use Rattle.nona_grammar.specs.Machine.{Stmts, Statement, Else, ForWord, ForName, Block, Whole, In, Want, Do};
 ghost use Rattle.nona_parse.specs.Steps.{Reads, Fails, Turns};
 
@@ -99,7 +99,7 @@ fn branch(alloc: Global, spots: &[Spot]) -> Result<(Stmt, &[Spot]), ReadFault>
 fn behind_else(spots: &[Spot]) -> Option<&[Spot]>
     ensures shorter { IfSome result (λ rest. length rest.now < length spots.now) }
     ensures read { MatchOption result
-        (Reads (Else ∷ []) spots.now (λ v. act Branch (block [] v)) spots.now)
+        (Reads (Else ∷ []) spots.now (λ v. act Branch (with_block [] v)) spots.now)
         (λ rest. Turns Else spots.now (Block ∷ Do Branch ∷ []) rest.now) }
 {
     match split_first(spots) {
@@ -116,7 +116,7 @@ fn behind_else(spots: &[Spot]) -> Option<&[Spot]>
 fn otherwise(alloc: Global, spots: &[Spot]) -> Result<(Items<Stmt>, &[Spot]), ReadFault>
     ensures shorter { IfOk result (λ x. length x.1.now ≤ length spots.now) }
     ensures read { MatchResult result
-        (λ x. Reads (Else ∷ []) spots.now (λ v. act Branch (block x.0 v)) x.1.now)
+        (λ x. Reads (Else ∷ []) spots.now (λ v. act Branch (with_block x.0 v)) x.1.now)
         (λ fault. Fails fault (Else ∷ []) spots.now) }
 {
     match behind_else(spots) {
@@ -193,7 +193,7 @@ fn bounds(alloc: Global, spots: &[Spot]) -> Result<(Expr, Expr, &[Spot]), ReadFa
 fn body(alloc: Global, spots: &[Spot]) -> Result<(Items<Stmt>, &[Spot]), ReadFault>
     ensures shorter { IfOk result (λ x. length x.1.now < length spots.now) }
     ensures read { MatchResult result
-        (λ x. Reads (Block ∷ []) spots.now (block x.0) x.1.now)
+        (λ x. Reads (Block ∷ []) spots.now (with_block x.0) x.1.now)
         (λ fault. Fails fault (Block ∷ []) spots.now) }
 {
     match sign(Sign::OpenBlock, spots) {

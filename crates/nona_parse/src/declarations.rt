@@ -132,7 +132,8 @@ fn array(spots: &[Spot]) -> Result<(Decl, &[Spot]), ReadFault>
 fn cells(spots: &[Spot]) -> Result<(i64, u32, &[Spot]), ReadFault>
     ensures shorter { IfOk result (λ x. length x.2.now < length spots.now) }
     ensures read { (n : List ℕ) (at : ℕ) → MatchResult result
-        (λ x. Reads (CellsOpen n at ∷ Want Sign.CloseIndex ∷ Want Sign.Semicolon ∷ []) spots.now (declares_one (Decl.Array (record { name = named n at; cells = x.0; cells_at = x.1 }))) x.2.now)
+        (λ x. Reads (CellsOpen n at ∷ Want Sign.CloseIndex ∷ Want Sign.Semicolon ∷ []) spots.now
+        (declares_one (Decl.Array (record { name = named n at; cells = x.0; cells_at = x.1 }))) x.2.now)
         (λ fault. Fails fault (CellsOpen n at ∷ Want Sign.CloseIndex ∷ Want Sign.Semicolon ∷ []) spots.now) }
 {
     match sign(Sign::OpenIndex, spots) {

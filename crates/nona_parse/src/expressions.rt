@@ -2,7 +2,7 @@ ghost use Rattle.std.specs.Prelude.{◌<◌, ◌≤◌, ◌∷◌, [], length, I
 ghost use Rattle.nona_grammar.specs.Levels.{loosest};
 ghost use Rattle.nona_grammar.specs.Stack.{push};
 ghost use Rattle.nona_grammar.specs.Machine.{Primary, Whole, Compare, Level, Tail, Want};
-ghost use Rattle.nona_parse.specs.Steps.{Reads, GoesOn, Fails};
+ghost use Rattle.nona_parse.specs.Steps.{Reads, ReadsBehind, Fails};
 
 use crate::accesses::{array_length, scalar_or_cell};
 use crate::fault::ReadFault;
@@ -10,6 +10,7 @@ use crate::operators::{binary, operator_above, prefixed, split_prefix};
 use crate::pieces::{sign, split_first};
 use nona_lex::{Keyword, Sign, Spot, Token};
 use nona_tree::Expr;
+use sqlite_items::Boxed;
 use std::alloc::Global;
 
 /// The loosest level whose operators may stand one after another.
@@ -31,19 +32,24 @@ pub fn expression(alloc: Global, spots: &[Spot]) -> Result<(Expr, &[Spot]), Read
 
 /// An expression that begins with `first`, which a comparison may follow, and one only.
 #[cycle(expr)]
-fn compared(alloc: Global, first: Expr, spots: &[Spot]) -> Result<(Expr, &[Spot]), ReadFault>
+fn compared(alloc: Global, first: Boxed<Expr>, spots: &[Spot]) -> Result<(Expr, &[Spot]), ReadFault>
     ensures shorter { IfOk result (λ x. length x.1.now ≤ length spots.now) }
     ensures read { MatchResult result
-        (λ x. GoesOn (Compare ∷ []) (push first) spots.now (push x.0) x.1.now)
+        (λ x. ReadsBehind (Compare ∷ []) (push first) spots.now (push x.0) x.1.now)
         (λ fault. Fails fault (Compare ∷ []) spots.now) }
 {
     match operator_above(LOOSEST, spots) {
-        None => Ok((first, spots)),
+        None => Ok((first.into_inner(), spots)),
         Some((op, at, later)) => match operand(alloc, LOOSEST, later) {
-            Ok((right, rest)) => match binary(alloc, op, at, first, right) {
-                Ok(both) => Ok((both, rest)),
-                Err(fault) => Err(fault),
-            },
+            Ok((right, rest)) => Ok((
+                Expr::Binary {
+                    op,
+                    at,
+                    left: first,
+                    right,
+                },
+                rest,
+            )),
             Err(fault) => Err(fault),
         },
     }
@@ -51,7 +57,7 @@ fn compared(alloc: Global, first: Expr, spots: &[Spot]) -> Result<(Expr, &[Spot]
 
 /// An expression whose operators are of this level and those below: at level 0 of none but one sign before it.
 #[cycle(expr)]
-fn operand(alloc: Global, level: u8, spots: &[Spot]) -> Result<(Expr, &[Spot]), ReadFault>
+fn operand(alloc: Global, level: u8, spots: &[Spot]) -> Result<(Boxed<Expr>, &[Spot]), ReadFault>
     requires { level ≤ loosest }
     ensures shorter { IfOk result (λ x. length x.1.now < length spots.now) }
     ensures read { MatchResult result
@@ -74,13 +80,13 @@ fn operand(alloc: Global, level: u8, spots: &[Spot]) -> Result<(Expr, &[Spot]), 
 fn joined(
     alloc: Global,
     below: u8,
-    first: Expr,
+    first: Boxed<Expr>,
     spots: &[Spot],
-) -> Result<(Expr, &[Spot]), ReadFault>
+) -> Result<(Boxed<Expr>, &[Spot]), ReadFault>
     requires { below < loosest }
     ensures shorter { IfOk result (λ x. length x.1.now ≤ length spots.now) }
     ensures read { MatchResult result
-        (λ x. GoesOn (Tail below ∷ []) (push first) spots.now (push x.0) x.1.now)
+        (λ x. ReadsBehind (Tail below ∷ []) (push first) spots.now (push x.0) x.1.now)
         (λ fault. Fails fault (Tail below ∷ []) spots.now) }
 {
     let mut left = first;
@@ -100,9 +106,11 @@ fn joined(
     Ok((left, rest))
 }
 
-/// A primary, before which one `-` or one `!` may stand.
+/// A primary, before which one `-` or one `!` may stand. Kept out of `operand`, which is on the stack seven times for each
+/// bracket that is open.
 #[cycle(expr)]
-fn unary(alloc: Global, spots: &[Spot]) -> Result<(Expr, &[Spot]), ReadFault>
+#[inline(never)]
+fn unary(alloc: Global, spots: &[Spot]) -> Result<(Boxed<Expr>, &[Spot]), ReadFault>
     ensures shorter { IfOk result (λ x. length x.1.now < length spots.now) }
     ensures read { MatchResult result
         (λ x. Reads (Level 0 ∷ []) spots.now (push x.0) x.1.now)

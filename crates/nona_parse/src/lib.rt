@@ -17,4 +17,4 @@ mod statements;
 mod tests;
 
 pub use fault::ParseFault;
-pub use program::{parse, reads_one_tree};
+pub use program::{TEXT_BYTES, parse, reads_one_tree, refuses_for_one_reason};

@@ -78,19 +78,35 @@ pub fn operator_above(below: u8, spots: &[Spot]) -> Option<(Op, u32, &[Spot])>
     }
 }
 
+/// An expression in a box.
+fn boxed(alloc: Global, value: Expr) -> Result<Boxed<Expr>, ReadFault>
+    ensures { MatchResult result (λ e. e ≡ value) (λ fault. fault ≡ ReadFault.NoMemory) }
+{
+    match Boxed::new(alloc, value) {
+        Ok(boxed) => Ok(boxed),
+        Err(_) => Err(ReadFault::NoMemory),
+    }
+}
+
 /// `left op right`.
-pub fn binary(alloc: Global, op: Op, at: u32, left: Expr, right: Expr) -> Result<Expr, ReadFault>
+pub fn binary(
+    alloc: Global,
+    op: Op,
+    at: u32,
+    left: Boxed<Expr>,
+    right: Boxed<Expr>,
+) -> Result<Boxed<Expr>, ReadFault>
     ensures { MatchResult result (λ e. e ≡ Expr.Binary op at left right) (λ fault. fault ≡ ReadFault.NoMemory) }
 {
-    let (Ok(left), Ok(right)) = (Boxed::new(alloc, left), Boxed::new(alloc, right)) else {
-        return Err(ReadFault::NoMemory);
-    };
-    Ok(Expr::Binary {
-        op,
-        at,
-        left,
-        right,
-    })
+    boxed(
+        alloc,
+        Expr::Binary {
+            op,
+            at,
+            left,
+            right,
+        },
+    )
 }
 
 /// What may stand before a primary.
@@ -117,13 +133,18 @@ pub fn split_prefix(spots: &[Spot]) -> (Prefix, &[Spot])
 }
 
 /// A value with what stands before it.
-pub fn prefixed(alloc: Global, prefix: Prefix, value: Expr) -> Result<Expr, ReadFault>
+pub fn prefixed(alloc: Global, prefix: Prefix, value: Expr) -> Result<Boxed<Expr>, ReadFault>
     ensures { MatchResult result (λ e. e ≡ prefixed_of prefix value) (λ fault. fault ≡ ReadFault.NoMemory) }
 {
-    let made = match prefix {
-        Prefix::Nothing => return Ok(value),
-        Prefix::Minus => Boxed::new(alloc, value).map(Expr::Neg),
-        Prefix::Not => Boxed::new(alloc, value).map(Expr::Not),
-    };
-    made.map_err(|_| ReadFault::NoMemory)
+    match prefix {
+        Prefix::Nothing => boxed(alloc, value),
+        Prefix::Minus => match boxed(alloc, value) {
+            Ok(value) => boxed(alloc, Expr::Neg(value)),
+            Err(fault) => Err(fault),
+        },
+        Prefix::Not => match boxed(alloc, value) {
+            Ok(value) => boxed(alloc, Expr::Not(value)),
+            Err(fault) => Err(fault),
+        },
+    }
 }

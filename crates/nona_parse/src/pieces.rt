@@ -4,7 +4,8 @@
 ghost use Rattle.std.specs.Prelude.{◌≡◌, ◌<◌, ◌∷◌, [], List, Bool, true, ℕ, length, IfOk, MatchOption, MatchResult};
 ghost use Rattle.nona_tree.specs.declared.trees.Expr.TheVariants as expr;
 ghost use Rattle.nona_grammar.specs.Levels.{named};
-ghost use Rattle.nona_grammar.specs.Machine.{Want, In, ArrayName, CellsOpen, Cells, VarName, Init, InitNumber, LetName, ForWord, ForName, Whole, Block, LenName, Do, sign_code};
+ghost use Rattle.nona_grammar.specs.Machine.{Want, In, Whole, Block, Do, ArrayName, CellsOpen, Cells, VarName, Init, InitNumber};
+ghost use Rattle.nona_grammar.specs.Machine.{LetName, ForWord, ForName, LenName, sign_code};
 ghost use Rattle.nona_grammar.specs.Stack.{Leaf, Bind, Each};
 ghost use Rattle.nona_parse.specs.Declaring.{declares_one};
 ghost use Rattle.nona_parse.specs.Steps.{Reads, Fails, Turns, same};

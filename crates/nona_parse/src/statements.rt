@@ -4,7 +4,7 @@ ghost use Rattle.std.specs.Prelude.{◌≡◌, ◌<◌, ◌∷◌, [], None, Som
 ghost use Rattle.nona_grammar.specs.Levels.{named};
 ghost use Rattle.nona_grammar.specs.Stack.{Assign, Merge, Store, Show, push, put, adds};
 ghost use Rattle.nona_grammar.specs.Machine.{LetName, AfterName, AfterCell, Index, Whole, Want, Do};
-ghost use Rattle.nona_parse.specs.Steps.{Reads, GoesOn, Fails, Turns, reaches};
+ghost use Rattle.nona_parse.specs.Steps.{Reads, ReadsBehind, Fails, Turns, reaches};
 
 use crate::accesses::cell;
 use crate::expressions::expression;
@@ -125,7 +125,7 @@ fn cell_assignment<'a>(
 fn cell_value(alloc: Global, place: Access, spots: &[Spot]) -> Result<(Stmt, &[Spot]), ReadFault>
     ensures shorter { IfOk result (λ x. length x.1.now < length spots.now) }
     ensures read { MatchResult result
-        (λ x. GoesOn (AfterCell ∷ []) (reaches place) spots.now (adds (x.0 ∷ [])) x.1.now)
+        (λ x. ReadsBehind (AfterCell ∷ []) (reaches place) spots.now (adds (x.0 ∷ [])) x.1.now)
         (λ fault. Fails fault (AfterCell ∷ []) spots.now) }
 {
     let (fold, later) = cell_sign(spots)?;

@@ -4,7 +4,7 @@ use Rattle.std.specs.declared.option.Option.{Option}
 use Rattle.std.specs.declared.result.Result.{Result}
 use Rattle.std.proofs.lemmas.Bool.{ltb-true, ltb-false}
 use Rattle.std.proofs.lemmas.List.{append-nil, length_push}
-use Rattle.nona_lex.specs.Words.{is_blank}
+use Rattle.nona_text.specs.Bytes.{is_blank}
 use Rattle.nona_text.specs.declared.pieces.FirstPiece.{FirstPiece}
 use Rattle.nona_text.specs.Pieces.{Piece, pieces_from}
 use Rattle.nona_text.specs.Digits.{signed_of}

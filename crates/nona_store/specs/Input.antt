@@ -1,16 +1,17 @@
 -- The numbers of an input file.
-use Rattle.std.specs.Prelude.{ℕ, zero, suc, ◌^◌, ℤ, List, [], ◌∷◌, ◌++◌, length, nat_lt, if◌then◌else◌, None, Some, Ok, Err}
+use Rattle.std.specs.Prelude.{ℕ, zero, suc, ℤ, List, [], ◌∷◌, ◌++◌, length, nat_lt, if◌then◌else◌, None, Some, Ok, Err}
 use Rattle.std.specs.declared.option.Option.{Option}
 use Rattle.std.specs.declared.result.Result.{Result}
-use Rattle.nona_lex.specs.Words.{is_blank}
+use Rattle.nona_text.specs.Bytes.{is_blank}
 use Rattle.nona_text.specs.Pieces.{Piece, pieces}
 use Rattle.nona_text.specs.Digits.{signed_of}
 use Rattle.nona_store.specs.declared.input.InputFault.{InputFault}
 use Rattle.nona_store.specs.declared.input.InputFault.TheVariants.{Token, Count}
+use Rattle.nona_store.specs.declared.input.TheConstants.{NUMBERS}
 
 -- the most numbers of an input
 abbrev pub number_bound : ℕ
-number_bound = 2 ^ 20
+number_bound = NUMBERS
 
 -- a number before others, where those are numbers too
 abbrev pub then_numbers : ℤ → Result (List ℤ) InputFault → Result (List ℤ) InputFault

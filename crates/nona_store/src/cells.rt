@@ -1,28 +1,33 @@
-ghost use Rattle.std.specs.Prelude.{◌≡◌, ◌<◌, ◌≤◌, ◌^◌, [], pos, length, replicate, slice_set, slice_index_or, IfOk};
+ghost use Rattle.std.specs.Prelude.{◌≡◌, ◌<◌, ◌≤◌, [], pos, length, replicate, slice_set, slice_index_or, All, IfOk};
+ghost use Rattle.nona_tree.specs.Faults.{cell_bound};
+ghost use Rattle.nona_tree.specs.Numbers.{IsI64};
+ghost use Rattle.nona_store.specs.Arrays.{AreKept};
 
 use std::alloc::{AllocError, Global};
 use std::marker::Model;
 
-/// The cells of an array, at most 4,194,304. Contracts see them as their list.
+/// The cells of an array, at most 4,194,304, each with a number of 64 bits. Contracts see them as their list.
 #[derive(Debug, Drop)]
 pub struct Cells {
     items: Vec<i64>,
 }
 
 impl Model for Cells {
-    ghost use Rattle.std.specs.Prelude.{List, ℤ, length, ◌≤◌, ◌^◌};
+    ghost use Rattle.std.specs.Prelude.{List, ℤ};
+    ghost use Rattle.nona_store.specs.Arrays.{AreKept};
 
     ghost Value = { List ℤ };
 
     ghost view = { λ c. c.items.items };
 
-    ghost invariant = { λ c. length c.items.items ≤ 2 ^ 22 };
+    ghost invariant = { λ c. AreKept c.items.items };
 }
 
 impl Cells {
     /// The cells with these values, of which there are at most 4,194,304. Takes no memory.
     pub fn of(items: Vec<i64>) -> Cells
-        requires { length items.items ≤ 2 ^ 22 }
+        requires few { length items.items ≤ cell_bound }
+        requires numbers { All IsI64 items.items }
         ensures { result ≡ items.items }
     {
         Cells { items }
@@ -39,7 +44,7 @@ impl Cells {
 
     /// `count` cells, at most 4,194,304, each with the value 0.
     pub fn zeros(alloc: Global, count: usize) -> Result<Cells, AllocError>
-        requires { count ≤ 2 ^ 22 }
+        requires { count ≤ cell_bound }
         ensures { IfOk result (λ cells. cells ≡ replicate count (pos 0)) }
     {
         let items = vec![in alloc; 0i64; count]?;
@@ -49,9 +54,16 @@ impl Cells {
     /// How many cells there are.
     pub fn len(&self) -> usize
         ensures value { result ≡ length self.now }
-        ensures small { result ≤ 2 ^ 22 }
+        ensures few { result ≤ cell_bound }
     {
         self.items.len()
+    }
+
+    /// Says that there are no more cells than there may be, each with a number of 64 bits. It does nothing when called.
+    pub fn are_kept(&self)
+        ensures { AreKept self.now }
+    {
+        let _ = &self.items;
     }
 
     /// The value of the cell at this place, which is there.

@@ -1,17 +1,21 @@
-ghost use Rattle.std.specs.Prelude.{◌≡◌, ◌<◌, ◌≤◌, ◌-◌, ◌^◌, [], length, map, replicate, pos, OnOk, OnErr, IfOk};
-ghost use Rattle.nona_store.specs.Arrays.{with_array, AreSized, IsSized};
+ghost use Rattle.std.specs.Prelude.{◌≡◌, ◌<◌, ◌≤◌, ◌-◌, [], length, map, replicate, pos, All, OnOk, OnErr, IfOk};
+ghost use Rattle.nona_store.specs.Arrays.{with_array, AreSized, IsSized, AreFew};
+ghost use Rattle.nona_store.specs.Input.{number_bound};
+ghost use Rattle.nona_tree.specs.Faults.{cell_bound};
+ghost use Rattle.nona_tree.specs.Numbers.{IsI64, AreI64};
 ghost use Rattle.nona_tree.specs.Memory.{scalar_at, cells_of, cell_at, declare, assign, put_cell, print, cut_to};
 ghost use Rattle.nona_tree.specs.Run.{start_of, start_arrays, count_of};
 ghost use Rattle.nona_tree.specs.declared.trees.VarDecl.{VarDecl};
 
 use crate::cells::Cells;
-use nona_tree::{ArrayDecl, Program, VarDecl};
+use nona_tree::{ArrayDecl, Checked, VarDecl, cells_are_bounded, numbers_stay};
 use std::alloc::{AllocError, Global};
 use std::marker::Model;
 use std::mem;
 
 /// What a program computes on: the visible scalars in order of declaration, the cells of each array, and the printed
-/// numbers. Contracts see it as these three lists.
+/// numbers. Contracts see it as these three lists. All its numbers have 64 bits, and no array has more than 4,194,304
+/// cells (`is_kept`).
 ///
 /// An array is named by its id: 0 is the input, and the declared arrays follow in text order. Each call takes constant
 /// time but for `start` and `copy`.
@@ -24,10 +28,13 @@ pub struct Store {
 
 impl Model for Store {
     ghost use Rattle.nona_tree.specs.Memory.{Memory};
+    ghost use Rattle.nona_store.specs.Arrays.{IsKept};
 
     ghost Value = { Memory };
 
     ghost view = { λ s. record { scalars = s.scalars.items; arrays = s.arrays.items; printed = s.printed.items } };
+
+    ghost invariant = { λ s. IsKept (record { scalars = s.scalars.items; arrays = s.arrays.items; printed = s.printed.items }) };
 }
 
 // The declared values of variables.
@@ -79,13 +86,16 @@ fn copied_arrays(alloc: Global, arrays: &[Cells]) -> Result<Vec<Cells>, AllocErr
 
 impl Store {
     /// The store before a program's first statement: its variables with their declared values, the input's numbers as
-    /// array 0, its arrays with all cells 0, and nothing printed. The input has at most 1,048,576 numbers, and each
-    /// declared array from 1 to 4,194,304 cells.
-    pub fn start(alloc: Global, program: &Program, input: Vec<i64>) -> Result<Store, AllocError>
-        requires input { length input.items ≤ 2 ^ 20 }
-        requires arrays { AreSized program.now.arrays }
+    /// array 0, its arrays with all cells 0, and nothing printed. The input has at most 1,048,576 numbers, as
+    /// `read_numbers` answers them. The one error is that memory ran out.
+    pub fn start(alloc: Global, program: &Checked, input: Vec<i64>) -> Result<Store, AllocError>
+        requires few { length input.items ≤ number_bound }
+        requires numbers { All IsI64 input.items }
         ensures { IfOk result (λ store. store ≡ start_of program.now input.items) }
     {
+        cells_are_bounded();
+        numbers_stay();
+        let program = program.program();
         let scalars = declared_values(alloc, program.vars.as_slice())?;
         let arrays = first_arrays(alloc, program.arrays.as_slice(), Cells::of(input))?;
         Ok(Store {
@@ -93,6 +103,14 @@ impl Store {
             arrays,
             printed: Vec::new(alloc),
         })
+    }
+
+    /// Says that all numbers have 64 bits, and that no array has more cells than there may be. It does nothing when called.
+    pub fn is_kept(&self)
+        ensures numbers { AreI64 self.now }
+        ensures few { All AreFew self.now.arrays }
+    {
+        let _ = &self.scalars;
     }
 
     /// A store that equals this one and shares nothing with it.
@@ -161,7 +179,7 @@ impl Store {
     pub fn length(&self, array: u32) -> usize
         requires { array < length self.now.arrays }
         ensures value { result ≡ length (cells_of self.now array) }
-        ensures small { result ≤ 2 ^ 22 }
+        ensures few { result ≤ cell_bound }
     {
         self.arrays[array as usize].len()
     }

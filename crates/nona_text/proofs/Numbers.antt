@@ -4,8 +4,9 @@ use Rattle.std.specs.List.{list_all}
 use Rattle.std.proofs.Math.Nat.{pow-succ', one-le-pow, mul-le-mul_left, mul-le-mul_right}
 use Rattle.std.proofs.lemmas.Bool.{and_parts, leb-true}
 use Rattle.std.proofs.lemmas.Option.{cond_some}
-use Rattle.nona_lex.specs.Words.{is_digit, number_of}
-use Rattle.nona_text.specs.Digits.{are_digits, digit_bound, number_within}
+use Rattle.nona_text.specs.Bytes.{is_digit, number_of}
+use Rattle.nona_text.specs.declared.digits.TheConstants.{DIGITS}
+use Rattle.nona_text.specs.Digits.{are_digits, number_within}
 
 -- bytes that aren't empty are digits where each is one
 pub each_digit : (bs : List ℕ) → 1 ≤ length bs → list_all is_digit bs ≡ are_digits bs
@@ -35,7 +36,7 @@ few_digits (b ∷ bs) all few = omega (arith, few_more 13 0 (b ∷ bs) all few)
 -- a number that bytes are in a range is in the range
 pub within : (low high : ℕ) (bytes : List ℕ) (n : ℕ) → number_within low high bytes ≡ Some n → (low ≤ n) × (n ≤ high)
 within low high bytes n e =
-    let few : Bool = are_digits bytes && nat_le (length bytes) digit_bound in
+    let few : Bool = are_digits bytes && nat_le (length bytes) DIGITS in
     let some = cond_some (few && nat_le low (number_of bytes) && nat_le (number_of bytes) high) (number_of bytes) n e in
     let most = and_parts (few && nat_le low (number_of bytes)) (nat_le (number_of bytes) high) some.0 in
     let least = and_parts few (nat_le low (number_of bytes)) most.0 in

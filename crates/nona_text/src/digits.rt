@@ -2,20 +2,19 @@
 
 ghost use Rattle.std.specs.Prelude.{◌≡◌, ◌-◌, ◌<◌, ◌≤◌, ◌^◌, true, length, min, pos, neg_ℤ};
 ghost use Rattle.std.specs.List.{list_all};
-ghost use Rattle.nona_lex.specs.Words.{is_digit, number_of};
-ghost use Rattle.nona_text.specs.Digits.{are_digits, digit_bound, number_within, positive_of, negative_of, signed_of};
+ghost use Rattle.nona_text.specs.Bytes.{is_digit, number_of};
+ghost use Rattle.nona_text.specs.Digits.{are_digits, number_within, positive_of, negative_of, signed_of};
 
-const DIGITS: usize = 13;
+use crate::bytes::is_digit;
 
-const GREATEST: u64 = 9223372036854775807;
+/// The most digits of a number in a script or an option.
+pub const DIGITS: usize = 13;
 
-const FARTHEST: u64 = 9223372036854775808;
+/// The greatest number of 64 bits with a sign, 2^63 - 1.
+pub const GREATEST: u64 = 9223372036854775807;
 
-fn is_digit(b: u8) -> bool
-    ensures { result ≡ is_digit b }
-{
-    b'0' <= b && b <= b'9'
-}
+/// How far below 0 the least number of 64 bits with a sign stands, 2^63.
+pub const FARTHEST: u64 = 9223372036854775808;
 
 fn all_digits(bytes: &[u8]) -> bool
     ensures { result ≡ list_all is_digit bytes.now }
@@ -32,8 +31,8 @@ fn are_digits(bytes: &[u8]) -> bool
     }
 }
 
-/// The value of digits, or 2^64 - 1 where it is greater.
-fn value(digits: &[u8]) -> u64
+/// The number that digits spell, or 2^64 - 1 where it is greater. Takes time in proportion to the digits.
+pub fn value(digits: &[u8]) -> u64
     ensures { result ≡ min (number_of digits.now) (2 ^ 64 - 1) }
 {
     let mut value: u64 = 0;
@@ -47,7 +46,7 @@ fn value(digits: &[u8]) -> u64
 /// The value of few digits.
 fn small_value(digits: &[u8]) -> u64
     requires digits { are_digits digits.now ≡ true }
-    requires few { length digits.now ≤ digit_bound }
+    requires few { length digits.now ≤ DIGITS }
     ensures { result ≡ number_of digits.now }
 {
     value(digits)

@@ -4,12 +4,16 @@
 //! `Fronts` what the first of them leaves behind.
 #![tactic(auto)]
 
+mod bytes;
 mod digits;
+mod law;
 mod lines;
 mod pieces;
 #[cfg(test)]
 mod tests;
 
-pub use digits::{number_within, signed_number};
+pub use bytes::{is_blank, is_digit};
+pub use digits::{DIGITS, FARTHEST, GREATEST, number_within, signed_number, value};
+pub use law::numbers_are_within;
 pub use lines::{FirstLine, first_line, without_cr};
 pub use pieces::{FirstPiece, first_token, first_word};

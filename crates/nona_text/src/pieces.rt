@@ -1,9 +1,11 @@
 // The pieces of bytes, one by one.
 
 ghost use Rattle.std.specs.Prelude.{◌≡◌, ◌+◌, not, length, take_while};
-ghost use Rattle.nona_lex.specs.Words.{is_blank};
+ghost use Rattle.nona_text.specs.Bytes.{is_blank};
 ghost use Rattle.nona_text.specs.Pieces.{is_space};
 ghost use Rattle.nona_text.specs.Fronts.{IsFirstPiece};
+
+use crate::bytes::is_blank;
 
 /// The first piece of bytes: how many blanks stand before it, its own bytes, of which there is one at least, and the bytes
 /// behind it.
@@ -12,12 +14,6 @@ pub struct FirstPiece<'a> {
     pub blanks: usize,
     pub bytes: &'a [u8],
     pub behind: &'a [u8],
-}
-
-fn is_blank(b: u8) -> bool
-    ensures { result ≡ is_blank b }
-{
-    b == b' ' || b == b'\t' || b == b'\n' || b == b'\r'
 }
 
 fn is_space(b: u8) -> bool

@@ -1,14 +1,13 @@
 -- How many scalars and arrays a run leaves.
-use Rattle.std.proofs.Common.{◌≡◌, ◌≤◌, ◌+◌, ℕ, ℤ, List, [], ◌∷◌, length, sym, ap, subst, subst₂, ◌∙◌, arith, length-append}
+use Rattle.std.proofs.Common.{◌≡◌, ℕ, ℤ, List, length, sym, ap, subst₂, ◌∙◌}
 use Rattle.std.proofs.lemmas.List.{length-map}
 use Rattle.nona_tree.specs.declared.outcomes.Outcome.{Outcome}
 use Rattle.nona_tree.specs.declared.trees.Stmt.{Stmt}
 use Rattle.nona_tree.specs.Memory.{Memory, declare}
-use Rattle.nona_tree.specs.Run.{Ran, done, block, turn, run, run_all}
+use Rattle.nona_tree.specs.Run.{done, block, turn, run, run_all, Reaches}
 use Rattle.nona_tree.specs.Scope.{depth_after}
-use Rattle.nona_tree.proofs.Keeps.{NoFewer, SameArrays, arrays_kept, run_kept, all_kept}
-use Rattle.nona_tree.proofs.Depth.{all_grow, all_block_depth, all_turn_depth, depth_where_done}
-use Rattle.nona_walk.specs.Reached.{Reaches}
+use Rattle.nona_tree.proofs.Keeps.{SameArrays, arrays_kept, run_kept, all_kept}
+use Rattle.nona_tree.proofs.Depth.{all_block_depth, all_turn_depth, depth_where_done}
 
 as_many : (m r : Memory) → SameArrays m r → length r.arrays ≡ length m.arrays
 as_many m r same = sym (length-map r.arrays length) ∙ ap length same ∙ length-map m.arrays length
@@ -36,13 +35,3 @@ after_turn P ss n i m r end ran holds =
     let scalars : length r.scalars ≡ length m.scalars = sym (ap (λ q. length q.store.scalars) ran) ∙ all_turn_depth ss n i m in
     let arrays : length r.arrays ≡ length m.arrays = sym (ap (λ q. length q.store.arrays) ran) ∙ as_many (declare i m) (run_all ss n (declare i m)).store (all_kept SameArrays arrays_kept ss n (declare i m)) in
     subst₂ (λ d a. P d a) (sym scalars) (sym arrays) holds
-
--- statements drop no scalar of the store around them
-pub no_fewer : (ss : List Stmt) (n : ℕ) (m r : Memory) (end : Outcome) → Reaches (run_all ss n m) r end → length m.scalars ≤ length r.scalars
-no_fewer ss n m r end ran = subst (λ q. NoFewer m q.store) ran (all_grow ss n m)
-
--- nor do they behind the index of a turn
-pub no_fewer_in_turn : (ss : List Stmt) (n : ℕ) (i : ℤ) (m begun r : Memory) (end : Outcome)
-    → begun ≡ declare i m → Reaches (run_all ss n begun) r end → length m.scalars ≤ length r.scalars
-no_fewer_in_turn ss n i m begun r end is ran =
-    omega (arith, no_fewer ss n begun r end ran, ap (λ b. length b.scalars) is, length-append m.scalars (i ∷ []))

@@ -1,4 +1,3 @@
 pub mod Parts
 pub mod Runs
 pub mod Counts
-pub mod Sized

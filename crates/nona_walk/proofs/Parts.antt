@@ -1,5 +1,5 @@
 -- What a form's scope says of its parts.
-use Rattle.std.proofs.Common.{◌≡◌, ◌<◌, ◌+◌, ℕ, List, ap, subst, ◌∙◌}
+use Rattle.std.proofs.Common.{◌≡◌, ◌+◌, ℕ, List, ap, subst, ◌∙◌}
 use Rattle.nona_tree.specs.declared.trees.Op.{Op}
 use Rattle.nona_tree.specs.declared.trees.Access.{Access}
 use Rattle.nona_tree.specs.declared.trees.Expr.{Expr, Cell, Neg, Not, Binary}

@@ -1,5 +1,5 @@
 -- The runs of statements that hold others, one step on.
-use Rattle.std.proofs.Common.{◌≡◌, ◌≢◌, ◌<◌, ◌≤◌, ◌+◌, ◌-◌, ℕ, zero, suc, ℤ, pos, ◌+ℤ◌, Bool, true, false, List, ◌∷◌, sym, ap, subst, ◌∙◌, arith, if◌then◌else◌}
+use Rattle.std.proofs.Common.{◌≡◌, ◌≢◌, ◌<◌, ◌+◌, ◌-◌, ℕ, zero, suc, ℤ, pos, ◌+ℤ◌, true, false, List, ◌∷◌, sym, ap, ◌∙◌, arith, if◌then◌else◌}
 use Rattle.std.specs.Int.{int_gap}
 use Rattle.std.specs.Prelude.{Ok}
 use Rattle.nona_tree.specs.declared.outcomes.Outcome.{Outcome}
@@ -9,10 +9,9 @@ use Rattle.nona_tree.specs.declared.trees.Loop.{Loop}
 use Rattle.nona_tree.specs.declared.trees.Stmt.{Stmt, If, While, For}
 use Rattle.nona_tree.specs.Memory.{Memory}
 use Rattle.nona_tree.specs.Value.{Answer, is_zero, value_of}
-use Rattle.nona_tree.specs.Run.{Ran, done, with_value, then_do, block, turn, while_turns, first_turns, for_turns, run, run_all}
+use Rattle.nona_tree.specs.Run.{Ran, done, with_value, then_do, block, turn, while_turns, first_turns, for_turns, run, run_all, Reaches}
 use Rattle.nona_tree.proofs.Equations.{run-If, run-While}
 use Rattle.nona_tree.proofs.Turns.{next_turn, turns_stay, for_between}
-use Rattle.nona_walk.specs.Reached.{Reaches}
 
 -- an if whose test is 0
 pub run_no : (s : Stmt) (test : Expr) (then_part else_part : List Stmt) (n : ℕ) (m : Memory) (v : ℤ) (body : List Stmt)

@@ -3,7 +3,7 @@
 //! What a run leaves and how it ends is what the sequential meaning says, after traps and where a loop is out of turns
 //! too. The store is changed in place. A statement takes constant time for each node of its tree, and a turn of a loop
 //! constant time beside its body. Memory grows with the printed numbers, the nesting of blocks and the scalars that
-//! are visible, and not with turns. `specs/` names where a run has come to (`Reached`).
+//! are visible, and not with turns.
 #![tactic(auto)]
 
 mod program;
@@ -11,9 +11,6 @@ mod statements;
 mod steps;
 mod values;
 
-pub use program::{Ended, run_checked, run_program};
-pub use statements::{walk, walk_all};
+pub use program::run_checked;
+pub use statements::{leave, walk, walk_all, walk_turn};
 pub use values::{is_no, value};
-
-#[cfg(test)]
-mod tests;

@@ -3,10 +3,9 @@
 ghost use Rattle.std.specs.Prelude.{◌≡◌, ◌<◌, ◌≤◌, ◌+◌, ◌-◌, ◌+ℤ◌, ℕ, pos, length, IfOk, FitsSigned};
 ghost use Rattle.std.specs.Int.{w64, int_gap};
 ghost use Rattle.nona_tree.specs.Memory.{cut_to};
-ghost use Rattle.nona_tree.specs.Run.{run, run_all, block, turn, first_turns, for_turns, while_turns};
+ghost use Rattle.nona_tree.specs.Run.{run, run_all, block, turn, first_turns, for_turns, while_turns, Reaches};
 ghost use Rattle.nona_tree.specs.Scope.{IsNamed, IsScoped, AreScoped};
 ghost use Rattle.nona_tree.specs.Value.{value_of};
-ghost use Rattle.nona_walk.specs.Reached.{Reaches};
 
 use crate::steps::{declare, fold, fold_put, print, put, set};
 use crate::values::{is_no, value};
@@ -78,12 +77,11 @@ pub fn walk(statement: &Stmt, turns: u64, store: &mut Store) -> Result<Outcome, 
     }
 }
 
-/// Leaves a block that began with `depth` scalars: those behind them go.
-fn leave(depth: usize, store: &mut Store)
-    requires { depth ≤ length store.old.scalars }
+/// Leaves a block that began with `depth` scalars: those behind the first `depth` go. Takes constant time.
+pub fn leave(depth: usize, store: &mut Store)
     ensures { store.new ≡ cut_to depth store.old }
 {
-    let behind = store.depth() - depth;
+    let behind = store.depth().saturating_sub(depth);
     store.cut_scalars(behind);
 }
 
@@ -187,9 +185,10 @@ fn walk_turns(
     Ok(Outcome::Done)
 }
 
-/// Runs a loop's body for one value of its index, which is visible in the body alone.
+/// Runs a loop's body for one value of its index, and answers how it ends. The index and the scalars that the body declares
+/// are gone after it, however it ends; all that `walk_all` says of names, turns, the store and errors holds here too.
 #[cycle(walk)]
-fn walk_turn(
+pub fn walk_turn(
     body: &[Stmt],
     index: i64,
     turns: u64,

@@ -2,9 +2,8 @@
 
 ghost use Rattle.std.specs.Prelude.{◌≡◌, ◌<◌, ℕ, length, IfOk};
 ghost use Rattle.nona_tree.specs.declared.trees.Stmt as stmt;
-ghost use Rattle.nona_tree.specs.Run.{run};
+ghost use Rattle.nona_tree.specs.Run.{run, Reaches};
 ghost use Rattle.nona_tree.specs.Scope.{IsNamed, IsCellNamed};
-ghost use Rattle.nona_walk.specs.Reached.{Reaches};
 
 use crate::values::{find, value};
 use nona_num::Fold;

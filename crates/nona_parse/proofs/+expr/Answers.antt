@@ -8,7 +8,7 @@ use Rattle.nona_tree.specs.declared.trees.Access.{Access}
 use Rattle.nona_tree.specs.declared.trees.Expr.TheVariants as expr
 use Rattle.nona_grammar.specs.Levels.{named, loosest}
 use Rattle.nona_grammar.specs.Stack.{Trees, Leaf, Join, Reach, Fetch, act, push}
-use Rattle.nona_grammar.specs.Machine.{Sym, Do, Want, Whole, Compare, Level, Tail, Primary, Index, MaybeCell, build}
+use Rattle.nona_grammar.specs.Machine.{Sym, Do, Want, Whole, Compare, Level, Tail, Primary, Index, build}
 use Rattle.nona_grammar.proofs.Machining.{acted, whole_is}
 use Rattle.nona_parse.specs.Steps.{reaches}
 use Rattle.nona_parse.specs.Prefixes.{acts_of}
@@ -30,12 +30,11 @@ expressions::expression-returns-in-Err-clause-read t c =
     fails_in c.in-Err.fault (Whole ∷ []) (Level loosest ∷ []) c.args.spots.now c.args.spots.now
     (λ end k v. (Compare ∷ k, v, whole_is end k v c.args.spots.now)) c.in-Err.ensures.read
 
-pub expressions::compared-returns-in-Ok-binary-clause-read : goal.expressions::compared-returns-in-Ok-binary-clause-read
-expressions::compared-returns-in-Ok-binary-clause-read t c = λ end k v.
+pub expressions::compared-returns-in-Ok-clause-read : goal.expressions::compared-returns-in-Ok-clause-read
+expressions::compared-returns-in-Ok-clause-read t c = λ end k v.
     let a = Join c.in-Some.op c.in-Some.at in
     c.in-Some.ensures.compared refl end k (push c.args.first v) ∙ c.in-Ok.ensures.read end (Do a ∷ k) (push c.args.first v)
     ∙ acted end a k (push c.in-Ok.right (push c.args.first v)) c.in-Ok.rest.now
-    ∙ ap (λ e. build end k (push e v) c.in-Ok.rest.now) (sym c.in-Ok-binary.ensures)
 
 pub expressions::operand-returns-in-Ok-clause-read : goal.expressions::operand-returns-in-Ok-clause-read
 expressions::operand-returns-in-Ok-clause-read t c =

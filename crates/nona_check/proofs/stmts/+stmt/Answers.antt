@@ -4,7 +4,7 @@ use Rattle.nona_tree.specs.Faults.{all_faults}
 use Rattle.nona_tree.specs.Ids.{all_ids}
 use Rattle.nona_tree.specs.Seen.{Seen}
 use Rattle.nona_tree.specs.Smallness.{stmt_size, all_size}
-use Rattle.nona_check.specs.After.{cut_to}
+use Rattle.nona_check.specs.After.{narrowed_to}
 use Rattle.nona_check.specs.First.{first_from}
 use Rattle.nona_check.proofs.AfterLaws.{block_leaves}
 use Rattle.nona_check.proofs.StmtLaws.{room_in_if, room_in_while, room_in_for, ids_in_if, faults_in_if, ids_in_while, faults_in_while, next_is, ids_next, faults_next, seen_next, room_next}
@@ -29,7 +29,7 @@ resolve_all-loop-stmt-preserved t c =
 
 pub resolve_block-returns-clause-seen : goal.resolve_block-returns-clause-seen
 resolve_block-returns-clause-seen t c =
-    c.cut.ensures ∙ ap (λ (seen : Seen). cut_to c.count-count.result seen) c.in_ok-resolved.ensures.seen
+    c.cut.ensures ∙ ap (λ (seen : Seen). narrowed_to c.count-count.result seen) c.in_ok-resolved.ensures.seen
     ∙ block_leaves c.args.stmts.now c.count-count.result c.args.scope.now c.count-count.ensures
 
 pub resolve_loop-resolve_block-requires : goal.resolve_loop-resolve_block-requires
@@ -70,7 +70,7 @@ pub resolve_stmt-returns-in_ok-resolve_block-in-If-2-clause-faults : goal.resolv
 resolve_stmt-returns-in_ok-resolve_block-in-If-2-clause-faults t c =
     let b = c.in-If in
     let seen = c.args.scope.now in
-    let tested = c.resolve_expr-in-If.new.first in
+    let tested = c.resolve_expr.new.first in
     let then_first = c.resolve_block.new.first in
     let then_faults : then_first ≡ first_from tested (all_faults b.yes seen) =
     c.in_ok-resolve_block-in-If.ensures.faults ∙ ap (λ (ss : List Stmt). first_from tested (all_faults ss seen)) c.as_slice.ensures in

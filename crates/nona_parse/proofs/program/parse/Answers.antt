@@ -1,4 +1,5 @@
 use Rattle.std.proofs.lemmas.Result.{MatchResult-weaker}
+use Rattle.nona_lex.specs.Bounds.{tokens_of}
 use Rattle.nona_parse.proofs.Refusals.{answered, every_read, small_program}
 use Rattle.nona_parse.proofs.program.parse.Goals as goal
 
@@ -14,3 +15,10 @@ returns-clause-every c =
     let text = c.args.text.now in
     let answer = answered text c.in-Ok.tokens c.as_slice.result.now c.read_program-read.result c.answer.result c.in-Ok.ensures.exact c.as_slice.ensures c.read_program-read.ensures c.answer.ensures in
     every_read c.grammar_is_read.ensures.one_tree text c.answer.result answer
+
+pub returns-clause-numbers : goal.returns-clause-numbers
+returns-clause-numbers c =
+    let text = c.args.text.now in
+    let answer = answered text c.in-Ok.tokens c.as_slice.result.now c.read_program-read.result c.answer.result c.in-Ok.ensures.exact c.as_slice.ensures c.read_program-read.ensures c.answer.ensures in
+    MatchResult-weaker c.answer.result answer
+    (λ p read. c.programs_are_i64.ensures (tokens_of text).spots p read.1 (c.tokens_are_i64.ensures text)) (λ f refusal. tt)

@@ -1,5 +1,5 @@
 use Rattle.std.proofs.Common.{◌≡◌, ◌-◌, ◌^◌, take, min}
-use Rattle.nona_lex.specs.Words.{number_of}
+use Rattle.nona_text.specs.Bytes.{number_of}
 use Rattle.nona_text.proofs.digits.value.Given as goal
 
 -- the value of the digits so far

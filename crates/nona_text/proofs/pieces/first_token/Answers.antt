@@ -1,5 +1,5 @@
 use Rattle.std.proofs.Common.{sym, ◌∙◌}
-use Rattle.nona_lex.specs.Words.{is_blank}
+use Rattle.nona_text.specs.Bytes.{is_blank}
 use Rattle.nona_text.proofs.Splitting.{no_piece, first_piece}
 use Rattle.nona_text.proofs.pieces.first_token.Goals as goal
 

@@ -1,16 +1,15 @@
-use Rattle.std.proofs.Common.{rules, arith, ◌≡◌, ◌+◌, ◌-◌, pos, ◌+ℤ◌, true, false, ◌∷◌, length, drop, sym, ap, subst, subst₂, ◌∙◌, FitsSigned, IfOk}
+use Rattle.std.proofs.Common.{rules, arith, ◌≡◌, ◌+◌, ◌-◌, true, false, ◌∷◌, length, drop, sym, ap, subst, subst₂, ◌∙◌, FitsSigned, IfOk}
 use Rattle.std.specs.Int.{w64, int_gap}
 use Rattle.std.proofs.lemmas.Int.{to_z-of_z}
 use Rattle.std.proofs.lemmas.List.{drop_more}
 use Rattle.nona_tree.specs.declared.trees.Stmt.{the_lemmas}
-use Rattle.nona_tree.specs.Run.{Ran, run, run_all, block, turn, while_turns, first_turns, for_turns, done, then_do}
+use Rattle.nona_tree.specs.Run.{Ran, run, run_all, block, turn, while_turns, first_turns, for_turns, done, then_do, Reaches}
 use Rattle.nona_tree.specs.Scope.{IsNamed, AreScoped}
 use Rattle.nona_tree.specs.Value.{is_zero, value_of}
 use Rattle.nona_tree.proofs.Turns.{next_turn, end_stays}
-use Rattle.nona_walk.specs.Reached.{Reaches}
 use Rattle.nona_walk.proofs.Parts.{in_if, in_while, in_for}
 use Rattle.nona_walk.proofs.Runs.{run_no, run_yes, run_while, run_for, next_statement, next_while, last_turn}
-use Rattle.nona_walk.proofs.Counts.{after_statement, after_block, after_turn, no_fewer, no_fewer_in_turn}
+use Rattle.nona_walk.proofs.Counts.{after_statement, after_block, after_turn}
 use Rattle.nona_walk.proofs.statements.+walk.Goals as goal
 
 pub walk-returns-in-Let : goal.walk-returns-in-Let
@@ -91,14 +90,6 @@ walk_all-loop-statement-preserved t c =
       ran = l.invariant.ran ∙ next_statement s rest _ c.args.turns l.store c.walk.new.store here ran;
       scoped = after_statement (AreScoped rest) s c.args.turns l.store c.walk.new.store ran scoped.1;
     }
-
-pub walk_block-leave-requires : goal.walk_block-leave-requires
-walk_block-leave-requires t c =
-    rw c.depth-depth.ensures (no_fewer c.args.body.now c.args.turns c.args.store.now c.walk_all.new.store c.in_ok-end.end c.in_ok-end.ensures)
-
-pub walk_turn-leave-requires : goal.walk_turn-leave-requires
-walk_turn-leave-requires t c =
-    rw c.depth-depth.ensures (no_fewer_in_turn c.args.body.now c.args.turns _ c.args.store.now c.push_scalar.new.self c.walk_all.new.store c.in_ok-end.end c.in_ok-push_scalar.ensures.ok c.in_ok-end.ensures)
 
 pub walk_turns-loop-k-preserved : goal.walk_turns-loop-k-preserved
 walk_turns-loop-k-preserved t c =

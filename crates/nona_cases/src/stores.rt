@@ -1,0 +1,51 @@
+//! The store of a program, and the cells of an array.
+
+use crate::programs::checked_of;
+use nona_store::{Cells, Store, read_numbers};
+use std::alloc::{AllocError, Global};
+use std::process::Abort;
+use std::test::Fail;
+
+/// Compares all that a store holds.
+fn assert_holds(
+    rt: &impl Abort,
+    alloc: Global,
+    store: &Store,
+    want: &str,
+) -> Result<(), AllocError> {
+    let text = format!(in alloc; "{store:?}")?;
+    assert_eq!(rt; text.as_str(), want);
+    Ok(())
+}
+
+/// The store before the first statement of a program, over the numbers 10 and -20.
+fn started(rt: &impl Abort, alloc: Global) -> Result<Store, Fail> {
+    let checked = checked_of(rt, alloc, b"array a[2]; array b[1]; var x = 5; var y;")?;
+    let input = read_numbers(alloc, b"10 -20")?;
+    Ok(Store::start(alloc, &checked, input)?)
+}
+
+#[test]
+fn a_store_and_its_copy(rt: HostRuntime) -> Result<(), Fail> {
+    let alloc = rt.alloc();
+    let mut store = started(&rt, alloc)?;
+    let began = store.copy(alloc)?;
+    store.push_scalar(8)?;
+    store.print(3)?;
+    let arrays =
+        "arrays: [Cells { items: [10, -20] }, Cells { items: [0, 0] }, Cells { items: [0] }]";
+    let want = format!(in alloc; "Store {{ scalars: [5, 0], {arrays}, printed: [] }}")?;
+    assert_holds(&rt, alloc, &began, want.as_str())?;
+    let want = format!(in alloc; "Store {{ scalars: [5, 0, 8], {arrays}, printed: [3] }}")?;
+    assert_holds(&rt, alloc, &store, want.as_str())?;
+    Ok(())
+}
+
+#[test]
+fn cells_and_their_copy(rt: HostRuntime) -> Result<(), Fail> {
+    let cells = Cells::zeros(rt.alloc(), 3)?;
+    let copy = cells.copy(rt.alloc())?;
+    assert_eq!(rt; copy.as_slice(), [0i64, 0, 0].as_slice());
+    assert_eq!(rt; Cells::none(rt.alloc()).len(), 0);
+    Ok(())
+}

@@ -1,7 +1,0 @@
-use Rattle.std.proofs.Common.{◌≡◌, ◌-◌, ◌^◌, take, min}
-use Rattle.nona_lex.specs.Words.{number_of}
-use Rattle.nona_lex.proofs.pieces.value.Given as goal
-
--- the value of the digits so far
-abbrev pub invariant-loop-digit : goal.invariant-loop-digit
-invariant-loop-digit l = l.value ≡ min (number_of (take l.digit-index l.digits)) (2 ^ 64 - 1)

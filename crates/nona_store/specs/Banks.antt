@@ -1,0 +1,32 @@
+-- What a bank allows.
+use Rattle.std.specs.Prelude.{◌≡◌, ℕ, ◌≤◌, Bool, true, false, None, Some}
+use Rattle.std.specs.declared.option.Option.{Option}
+use Rattle.nona_tree.specs.Deeds.{Deed, reads, sets, folds, loads, stores, joins, prints}
+
+-- which cells of an array may be loaded and which saved, how many scalars may stand where there is a bound, whether numbers
+-- may be printed, and whether memory never runs out
+pub record Limits : Type 0 where
+  pub loads : ℕ → ℕ → Bool
+  pub saves : ℕ → ℕ → Bool
+  pub room : Option ℕ
+  pub prints : Bool
+  pub firm : Bool
+
+-- so many scalars may stand
+abbrev pub HasRoom : Option ℕ → ℕ → Type 0
+HasRoom None count = Unit {0}
+HasRoom (Some room) count = count ≤ room
+
+-- a deed that these limits allow: each deed on a scalar, and those on a cell and of printing by what they need
+abbrev pub Allows : Limits → Deed → Type 0
+Allows l (loads array place) = l.loads array place ≡ true
+Allows l (stores array place) = l.saves array place ≡ true
+Allows l (joins f array place) = (l.loads array place ≡ true) × (l.saves array place ≡ true)
+Allows l prints = l.prints ≡ true
+Allows l (reads id) = Unit {0}
+Allows l (sets id) = Unit {0}
+Allows l (folds f id) = Unit {0}
+
+-- what a whole store allows: every cell, any number of scalars, and prints; its memory may run out
+abbrev pub all_allowed : Limits
+all_allowed = record { loads = λ array place. true; saves = λ array place. true; room = None; prints = true; firm = false }
