@@ -1,11 +1,9 @@
 //! Divisors, coefficients and distances.
 
-ghost use Rattle.std.specs.Prelude.{◌≡◌, ◌≤◌, ◌<◌, ◌+◌, ◌*◌, ◌^◌, ◌==◌, ℕ, pos, ◌+ℤ◌, nat_lt, if◌then◌else◌, length, unsigned_abs, max, All, IsTrue};
-ghost use Rattle.std.specs.Int.{IsGcd, div_ceil};
-ghost use Rattle.nona_tree.specs.Run.{count_of};
+ghost use Rattle.std.specs.Prelude.{◌≡◌, ◌≤◌, ◌<◌, ◌+◌, ◌^◌, ◌==◌, ℕ, ◌+ℤ◌, nat_lt, if◌then◌else◌, length, unsigned_abs, All, IsTrue};
+ghost use Rattle.std.specs.Int.{IsGcd};
 ghost use Rattle.nona_forms.specs.Affine.{is_coefficient};
-ghost use Rattle.nona_forms.specs.Verdicts.{coefficient_of, same_terms, invariant_terms, inner_terms, gcd_of, gcd_terms, divides, is_distance, has_multiple};
-ghost use Rattle.nona_affine.specs.Small.{IsSmallRange};
+ghost use Rattle.nona_forms.specs.Verdicts.{coefficient_of, inner_terms, gcd_of, gcd_terms, is_distance, has_multiple};
 ghost use Rattle.nona_forms.specs.declared.terms.Term.{Term};
 
 use nona_forms::{Term, pair_laws};

@@ -1,9 +1,9 @@
 //! Ranges of inner parts.
 
-ghost use Rattle.std.specs.Prelude.{◌≡◌, ◌≤◌, ◌<◌, ◌+◌, ◌*◌, ℕ, ◌^◌, ◌*ℤ◌, ◌-ℤ◌, ℤ, pos, negsuc, length, unsigned_abs, All, IfOk, IfSome, IsTrue, Some, None, is_some, if◌then◌else◌};
-ghost use Rattle.nona_forms.specs.Affine.{is_coefficient, is_constant, no_terms};
+ghost use Rattle.std.specs.Prelude.{◌≡◌, ◌≤◌, ◌+◌, ℕ, ◌^◌, ◌-ℤ◌, ℤ, pos, length, All, IfSome, IsTrue};
+ghost use Rattle.nona_forms.specs.Affine.{is_coefficient};
 ghost use Rattle.nona_forms.specs.Boxes.{times_range, sum_range};
-ghost use Rattle.nona_forms.specs.Verdicts.{fixed_of, fixed_inner, bounds_of, range_in, all_fixed, inner_box, inner_part, inner_terms};
+ghost use Rattle.nona_forms.specs.Verdicts.{fixed_of, bounds_of, inner_part};
 ghost use Rattle.nona_affine.specs.Steps.{term_in, added_term};
 ghost use Rattle.nona_affine.specs.Small.{IsSmallRange};
 ghost use Rattle.nona_forms.specs.declared.terms.Term.{Term};

@@ -1,9 +1,8 @@
 //! Sums and multiples of affine forms.
 
-ghost use Rattle.std.specs.Prelude.{◌≡◌, ◌≤◌, ◌<◌, ◌++◌, [], None, Some, if◌then◌else◌, negsuc, ◌*ℤ◌, ◌+ℤ◌, length, All, IfOk, IsTrue};
-ghost use Rattle.nona_forms.specs.Affine.{Affine, is_bounded, is_coefficient, is_constant, if_bounded, sum_form, times_form, constant_form, scalar_form, times_terms, on_form, among, form_by, form_of, no_terms};
+ghost use Rattle.std.specs.Prelude.{◌≡◌, ◌++◌, None, Some, if◌then◌else◌, negsuc, ◌*ℤ◌, ◌+ℤ◌, IfOk, IsTrue};
+ghost use Rattle.nona_forms.specs.Affine.{is_bounded, if_bounded, sum_form, times_form, scalar_form, times_terms, on_form, among, form_by, no_terms};
 ghost use Rattle.nona_tree.specs.declared.trees.Op.TheVariants as op;
-ghost use Rattle.nona_forms.specs.declared.terms.Term.{Term};
 
 use crate::names::{Ids, Names};
 use crate::terms::{can_scale, merge, scale};

@@ -4,7 +4,7 @@ ghost use Rattle.std.specs.Prelude.{◌≡◌, ◌++◌, [], ◌∷◌, map, IfO
 ghost use Rattle.nona_tree.specs.declared.trees.Stmt.{For};
 ghost use Rattle.nona_forms.specs.References.{expr_references, written_references, references, references_all, names_of};
 ghost use Rattle.nona_forms.specs.Verdicts.{spot_of, shape_of};
-ghost use Rattle.nona_affine.specs.Lists.{bare, spot_in};
+ghost use Rattle.nona_affine.specs.Lists.{bare};
 ghost use Rattle.nona_affine.specs.Spotted.{spots_in};
 
 use crate::around::Around;

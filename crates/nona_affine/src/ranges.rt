@@ -1,6 +1,6 @@
 //! Box ranges of forms.
 
-ghost use Rattle.std.specs.Prelude.{◌≡◌, ◌≤◌, ◌+◌, ◌*◌, ℕ, ◌^◌, ◌&&◌, length, All, IsTrue};
+ghost use Rattle.std.specs.Prelude.{◌≡◌, ◌≤◌, ◌+◌, ℕ, ◌^◌, ◌&&◌, length, All, IsTrue};
 ghost use Rattle.std.specs.List.{list_all};
 ghost use Rattle.nona_forms.specs.Affine.{is_coefficient, is_constant};
 ghost use Rattle.nona_forms.specs.Boxes.{box, sum_range, times_range, point, form_range};

@@ -1,8 +1,8 @@
 //! The terms of affine forms: whole numbers of scalars.
 
-ghost use Rattle.std.specs.Prelude.{◌≡◌, ◌≤◌, ◌<◌, ◌++◌, ◌*ℤ◌, ◌+ℤ◌, [], ◌∷◌, length, drop, All, IfOk, IsTrue};
+ghost use Rattle.std.specs.Prelude.{◌≡◌, ◌≤◌, ◌++◌, ◌*ℤ◌, ◌+ℤ◌, [], length, drop, All, IfOk, IsTrue};
 ghost use Rattle.std.specs.List.{list_all};
-ghost use Rattle.nona_forms.specs.Affine.{is_coefficient, with_term, sum_terms, times_terms, no_terms};
+ghost use Rattle.nona_forms.specs.Affine.{is_coefficient, with_term, sum_terms, times_terms};
 ghost use Rattle.nona_forms.specs.declared.terms.Term.{Term};
 
 use nona_forms::{Term, is_coefficient};

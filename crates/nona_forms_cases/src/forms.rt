@@ -30,7 +30,9 @@ fn form_in(alloc: Global, checked: &Checked) -> Result<Option<Form>, AllocError>
 
 /// The form of an index in a loop whose own index has the id 2.
 fn form_of(rt: &impl Abort, alloc: Global, index: &str) -> Result<Option<Form>, Fail> {
-    let text = format!(in alloc; "var x; var s; array a[9]; for i in 0..9 {{ let y = i; s += y; a[{index}] = 1; }}")?;
+    let text = format!(in alloc;
+        "var x; var s; array a[9]; for i in 0..9 {{ let y = i; s += y; a[{index}] = 1; }}"
+    )?;
     let checked = checked_of(rt, alloc, text.as_bytes())?;
     Ok(form_in(alloc, &checked)?)
 }
@@ -79,7 +81,10 @@ fn shown(alloc: Global, form: &Form) -> Result<String, AllocError> {
 #[test]
 fn ranges(rt: HostRuntime) -> Result<(), Fail> {
     let alloc = rt.alloc();
-    let bounds = [(2, Range { low: 0, high: 9 }), (0, Range { low: -3, high: 4 })];
+    let bounds = [
+        (2, Range { low: 0, high: 9 }),
+        (0, Range { low: -3, high: 4 }),
+    ];
     let table = [("2*i + 1", 1, 19), ("5 - i - 2*x", -12, 11), ("7", 7, 7)];
     for (index, low, high) in table {
         let got = match form_of(&rt, alloc, index)? {

@@ -252,7 +252,11 @@ fn answers_are_as_found(rt: HostRuntime) -> Result<(), Fail> {
         let body = format!(in alloc; "a[{written}] = a[{read}];")?;
         let text = format!(in alloc; "var n; array a[9]; {around} {{ {body} }} }}")?;
         let seen = seen_in(&rt, alloc, text.as_bytes())?;
-        let want = if row[11] == 1 { Verdict::Apart } else { Verdict::Maybe };
+        let want = if row[11] == 1 {
+            Verdict::Apart
+        } else {
+            Verdict::Maybe
+        };
         assert!(rt; told(&seen, 0, 1) == Some(want), "{text}");
     }
     Ok(())

@@ -25,6 +25,7 @@ pub fn last_loop(body: &[Stmt]) -> Option<&Loop> {
 }
 
 /// A loop as the dependence test sees it, and its accesses.
+#[derive(Debug, Drop)]
 pub struct Seen {
     pub shape: LoopShape,
     pub spots: Vec<Spot>,

@@ -24,7 +24,10 @@ fn shown(alloc: Global, spot: &Spot) -> Result<String, AllocError> {
     for l in spot.inner.as_slice() {
         inner.push(l.id)?;
     }
-    format!(in alloc; "{kind} {} at {}{wrap}: {form} in {inner:?}", spot.array, spot.at)
+    format!(in alloc;
+        "{kind} {} at {}{wrap}: {form} in {inner:?}",
+        spot.array, spot.at
+    )
 }
 
 fn compare(rt: &impl Abort, alloc: Global, text: &str, want: &[&str]) -> Result<(), Fail> {
@@ -49,41 +52,51 @@ fn of_two_programs(rt: HostRuntime) -> Result<(), Fail> {
         &rt,
         alloc,
         "array a[20]; for i in 0..9 { a[2*i] = a[2*i + 1]; }",
-        &["writes 1 at 29: 0 [(0, 2)] in []", "reads 1 at 38: 1 [(0, 2)] in []"],
+        &[
+            "writes 1 at 29: 0 [(0, 2)] in []",
+            "reads 1 at 38: 1 [(0, 2)] in []",
+        ],
     )?;
     compare(
         &rt,
         alloc,
         "array a[20]; for i in 0..9 { a[i + 1] = a[i]; }",
-        &["writes 1 at 29: 1 [(0, 1)] in []", "reads 1 at 40: 0 [(0, 1)] in []"],
+        &[
+            "writes 1 at 29: 1 [(0, 1)] in []",
+            "reads 1 at 40: 0 [(0, 1)] in []",
+        ],
     )
 }
 
 #[test]
 fn of_every_statement(rt: HostRuntime) -> Result<(), Fail> {
-    let body = "let t = a[0]; x = a[1]; x += a[2]; a[b[i]] += a[3]; if a[4] { print a[5]; } else { b[wrap x] = 1; }";
-    let loops = "for j in 0..a[6] { for k in j..3 { b[k - i] = len(a); } } while a[7] { a[y] = !a[8]; }";
+    let body =
+        "let t = a[0]; x = a[1]; x += a[2]; a[b[i]] += a[3]; if a[4] { print a[5]; } else { b[wrap x] = 1; }";
+    let loops =
+        "for j in 0..a[6] { for k in j..3 { b[k - i] = len(a); } } while a[7] { a[y] = !a[8]; }";
     let alloc = rt.alloc();
-    let text = format!(in alloc; "var x; var y; array a[9]; array b[9]; for i in 0..9 {{ {body} {loops} }}")?;
+    let text = format!(in alloc;
+        "var x; var y; array a[9]; array b[9]; for i in 0..9 {{ {body} {loops} }}"
+    )?;
     compare(
         &rt,
         alloc,
         text.as_str(),
         &[
-            "reads 1 at 63: 0 [] in []",
-            "reads 1 at 73: 1 [] in []",
-            "reads 1 at 84: 2 [] in []",
-            "writes 1 at 90: none in []",
-            "reads 2 at 92: 0 [(2, 1)] in []",
-            "reads 1 at 101: 3 [] in []",
-            "reads 1 at 110: 4 [] in []",
-            "reads 1 at 123: 5 [] in []",
-            "writes 2 at 138 wrapped: none in []",
-            "reads 1 at 165: 6 [] in []",
+            "reads 1 at 62: 0 [] in []",
+            "reads 1 at 72: 1 [] in []",
+            "reads 1 at 83: 2 [] in []",
+            "writes 1 at 89: none in []",
+            "reads 2 at 91: 0 [(2, 1)] in []",
+            "reads 1 at 100: 3 [] in []",
+            "reads 1 at 109: 4 [] in []",
+            "reads 1 at 122: 5 [] in []",
+            "writes 2 at 137 wrapped: none in []",
+            "reads 1 at 166: 6 [] in []",
             "writes 2 at 189: 0 [(2, -1), (5, 1)] in [4, 5]",
-            "reads 1 at 216: 7 [] in []",
-            "writes 1 at 223: 0 [(1, 1)] in []",
-            "reads 1 at 231: 8 [] in []",
+            "reads 1 at 218: 7 [] in []",
+            "writes 1 at 225: 0 [(1, 1)] in []",
+            "reads 1 at 233: 8 [] in []",
         ],
     )
 }
