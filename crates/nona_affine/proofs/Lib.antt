@@ -1,0 +1,10 @@
+pub mod Bools
+pub mod Members
+pub mod TermLoops
+pub mod FormLoops
+pub mod FormEquations
+pub mod SmallRanges
+pub mod PairLoops
+pub mod BoxLoops
+pub mod AssignedEquations
+pub mod ReferenceEquations

@@ -1,0 +1,13 @@
+pub mod Sums
+pub mod FormValues
+pub mod Division
+pub mod InBoxes
+pub mod Differing
+pub mod Named
+pub mod Exact
+pub mod Separate
+pub mod Sound
+pub mod Meanings
+pub mod Cascade
+pub mod Steadier
+pub mod Touching

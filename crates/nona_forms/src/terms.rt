@@ -1,0 +1,8 @@
+/// A whole number of a scalar.
+#[derive(Clone, Copy, Debug, PartialEq, Eq)]
+pub struct Term {
+    /// The scalar's id.
+    pub id: u32,
+    /// How often it is taken. In a form it isn't 0, and its absolute value is at most `COEFFICIENT`.
+    pub coefficient: i64,
+}
