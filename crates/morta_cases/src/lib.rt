@@ -9,8 +9,6 @@ mod logs;
 #[cfg(test)]
 mod programs;
 #[cfg(test)]
-mod replays;
-#[cfg(test)]
 mod runs;
 #[cfg(test)]
 mod scripts;
