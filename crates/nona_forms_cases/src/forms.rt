@@ -1,0 +1,114 @@
+//! Forms of expressions, and their ranges.
+
+use crate::programs::{checked_of, last_loop};
+use nona_affine::{Names, are_bound, form, loop_names, range};
+use nona_forms::Form;
+use nona_num::Range;
+use nona_tree::{Checked, Expr, Loop, Stmt};
+use std::alloc::{AllocError, Global};
+use std::process::Abort;
+use std::test::Fail;
+
+/// The index of the cell that the last statement of a loop writes.
+fn index_of(l: &Loop) -> Option<&Expr> {
+    match l.body.as_slice().last()? {
+        Stmt::Put { place, .. } => Some(&place.index),
+        _ => None,
+    }
+}
+
+/// The form of that index in the last loop of a program.
+fn form_in(alloc: Global, checked: &Checked) -> Result<Option<Form>, AllocError> {
+    match last_loop(checked.program().body.as_slice()) {
+        None => Ok(None),
+        Some(l) => match index_of(l) {
+            None => Ok(None),
+            Some(index) => form(alloc, index, &loop_names(alloc, l)?),
+        },
+    }
+}
+
+/// The form of an index in a loop whose own index has the id 2.
+fn form_of(rt: &impl Abort, alloc: Global, index: &str) -> Result<Option<Form>, Fail> {
+    let text = format!(in alloc;
+        "var x; var s; array a[9]; for i in 0..9 {{ let y = i; s += y; a[{index}] = 1; }}"
+    )?;
+    let checked = checked_of(rt, alloc, text.as_bytes())?;
+    Ok(form_in(alloc, &checked)?)
+}
+
+#[test]
+fn of_expressions(rt: HostRuntime) -> Result<(), Fail> {
+    let alloc = rt.alloc();
+    let table = [
+        ("2*(i + 3) - i", "6 [(2, 1)]"),
+        ("i*x", "none"),
+        ("i*4294967296", "none"),
+        ("i*2147483648", "0 [(2, 2147483648)]"),
+        ("i*2147483649", "none"),
+        ("-i - 2147483647*i", "0 [(2, -2147483648)]"),
+        ("9223372036854775807 + x", "9223372036854775807 [(0, 1)]"),
+        ("1 + (9223372036854775807 - 1)", "9223372036854775807 []"),
+        ("9223372036854775807 + 1 - 1", "none"),
+        ("3*x - 2*i + x - 7", "-7 [(0, 4), (2, -2)]"),
+        ("x - x", "0 []"),
+        ("s", "none"),
+        ("y", "none"),
+        ("len(a)", "none"),
+        ("!i", "none"),
+        ("i / 1", "none"),
+        ("0*(i*i)", "none"),
+    ];
+    for (index, want) in table {
+        let got = match form_of(&rt, alloc, index)? {
+            None => format!(in alloc; "none")?,
+            Some(form) => shown(alloc, &form)?,
+        };
+        assert!(rt; got.as_str() == want, "{index}");
+    }
+    Ok(())
+}
+
+/// A form's constant, and its terms as pairs of an id and a coefficient.
+fn shown(alloc: Global, form: &Form) -> Result<String, AllocError> {
+    let mut pairs = Vec::new(alloc);
+    for t in form.terms() {
+        pairs.push((t.id, t.coefficient))?;
+    }
+    format!(in alloc; "{} {pairs:?}", form.constant())
+}
+
+#[test]
+fn ranges(rt: HostRuntime) -> Result<(), Fail> {
+    let alloc = rt.alloc();
+    let bounds = [
+        (2, Range { low: 0, high: 9 }),
+        (0, Range { low: -3, high: 4 }),
+    ];
+    let table = [("2*i + 1", 1, 19), ("5 - i - 2*x", -12, 11), ("7", 7, 7)];
+    for (index, low, high) in table {
+        let got = match form_of(&rt, alloc, index)? {
+            None => None,
+            Some(form) => {
+                if are_bound(&form, bounds.as_slice()) {
+                    Some(range(&form, bounds.as_slice()))
+                } else {
+                    None
+                }
+            }
+        };
+        assert_eq!(rt; got, Some(Range { low, high }));
+    }
+    Ok(())
+}
+
+#[test]
+fn of_listed_names(rt: HostRuntime) -> Result<(), Fail> {
+    let alloc = rt.alloc();
+    let mut ids = Vec::new(alloc);
+    ids.push(7)?;
+    ids.push(3)?;
+    let names = Names::of(ids);
+    assert!(rt; names.has(3) && names.has(7) && !names.has(5));
+    Ok(())
+}

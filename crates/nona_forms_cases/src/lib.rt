@@ -1,0 +1,14 @@
+//! Cases of forms, of the accesses of loops and of the dependence test, and nothing else. A case takes a text through `parse`
+//! and `check`, calls what stands below, with memory as ample as the machine's, and compares the answer.
+#![tactic(auto)]
+
+#[cfg(test)]
+mod forms;
+#[cfg(test)]
+mod pairs;
+#[cfg(test)]
+mod programs;
+#[cfg(test)]
+mod rules;
+#[cfg(test)]
+mod spots;
