@@ -1,5 +1,5 @@
 -- From an entry of a run to the next one, or to the end.
-use Rattle.std.proofs.Common.{◌≡◌, ℕ, ◌+◌, ◌-◌, ◌<◌, ◌≤◌, ℤ, List, [], ◌∷◌, ◌++◌, length, take, refl, sym, ◌∙◌, ap, subst, append_assoc, arith, length-append, Some, slice_get}
+use Rattle.std.proofs.Common.{◌≡◌, ◌≢◌, ℕ, ◌+◌, ◌-◌, ◌<◌, ◌≤◌, ℤ, List, [], ◌∷◌, ◌++◌, length, take, refl, sym, ◌∙◌, ap, subst, append_assoc, arith, length-append, Some, slice_get}
 use Rattle.std.specs.Prelude.{All, Ok}
 use Rattle.std.proofs.lemmas.List.{take_at}
 use Rattle.std.proofs.lemmas.List.Elements.{All-head, All-tail}
@@ -17,7 +17,7 @@ use Rattle.nona_tree.specs.Entries.{Opened, regions_all, count_all, IsEntryOf}
 use Rattle.nona_main.specs.Course.{Course, ended}
 use Rattle.nona_main.specs.declared.frame.Stop.{Stop}
 use Rattle.nona_main.specs.declared.frame.Stop.TheVariants as stops
-use Rattle.nona_main.specs.Frame.{IsAtRegion, Stops}
+use Rattle.nona_main.specs.Frame.{IsAtRegion, Stops, CanLeave}
 use Rattle.morta_task.specs.declared.opening.Opening.{Opening}
 use Rattle.morta_task.specs.declared.regions.RegionCode.{RegionCode}
 use Rattle.morta_task.specs.ImageView.{is_region_of}
@@ -27,7 +27,7 @@ use Rattle.morta_task.specs.Promise.{Promise}
 use Rattle.morta_task.specs.Legal.{begun, EndsAll}
 use Rattle.morta_exec.specs.Began.{Began, all_entries, whole_run}
 use Rattle.morta_exec.specs.Places.{most, ClosedBy, ComesBehind, after_interval}
-use Rattle.morta_exec.specs.EntryRun.{whole_loop, LoopsOfEntries, HasEnded}
+use Rattle.morta_exec.specs.EntryRun.{whole_loop, HasEnded}
 use Rattle.morta_exec.specs.MainRun.{Between, AtEntry, IsOver, IsOpened, to_come}
 use Rattle.morta_exec.proofs.Growing.{some_same, front_is, extends_same}
 use Rattle.morta_exec.proofs.Coming.{Prints, opening, numbered_is, next_at}
@@ -131,11 +131,11 @@ listed_on es listed new more e k all is count =
 store_is : (e : EntryView) (store : Memory) (end : Outcome) → whole_loop e ≡ record { store = store; end = end } → (whole_loop e).store ≡ store
 store_is e store end h = ap (λ (r : Ran). r.store) h
 
-pub ready_on : LoopsOfEntries → (P : ℕ → ℕ → Type 0) (e : EntryView) (store : Memory) (end : Outcome) → IsEntered e → whole_loop e ≡ record { store = store; end = end }
-    → P (length e.store.scalars) (length e.store.arrays) → P (length store.scalars) (length store.arrays)
-ready_on loops P e store end is h p =
-    subst (λ (m : Memory). P (length m.scalars) (length m.arrays)) (store_is e store end h)
-    (subst (λ d. P d (length (whole_loop e).store.arrays)) (sym (loops.scalars e is)) (subst (λ a. P (length e.store.scalars) a) (sym (loops.arrays e is)) p))
+-- the blocks around a region whose loop ended otherwise than done can be left
+pub leave_on : {M : Type 0} (promise : Promise M) (left : ℕ → Ran → Course → Type 0) (b : Began M) (old now : M) (log new : LogView) (n : ℕ) (e : EntryView) (store : Memory) (end : Outcome)
+    → AtEntry promise (left n) b old log e → HasEnded promise b now e new store end → end ≢ outcome.Done → CanLeave left store
+leave_on promise left b old now log new n e store end a h other =
+    (n, end, a.rest, other, subst (λ (r : Ran). left n r a.rest) h.reaches a.goes_on)
 
 -- the loop of the entry is done, and the run goes on
 pub between_on : {M : Type 0} (promise : Promise M) (left : Ran → Course → Type 0) (b : Began M) (old now : M) (log new : LogView) (e : EntryView) (store : Memory) (end : Outcome)

@@ -68,11 +68,6 @@ abbrev pub GoesOnTo : {M : Type 0} → Promise M → (Ran → Course → Type 0)
 GoesOnTo promise left b now log store None = Between promise left b now store log
 GoesOnTo promise left b now log store (Some end) = IsOver promise b log store end
 
--- a frame that goes on can go on from this store
-abbrev pub IsReadyTo : (ℕ → ℕ → Type 0) → Memory → Option Outcome → Type 0
-IsReadyTo ready store None = ready (length store.scalars) (length store.arrays)
-IsReadyTo ready store (Some end) = Unit {0}
-
 -- an entry opens so, in this store: it is to the region of an image with this number
 pub record IsOpened (image : ImageView) (opening : Opening) (n : ℕ) (m : Memory) (e : EntryView) : Type 0 where
   pub code : RegionCode

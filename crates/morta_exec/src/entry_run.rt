@@ -21,7 +21,7 @@ use fate_io::Sink;
 use morta_task::{Asker, Cut, Entry, Handoff, Image, Interval, Log, Runner};
 use nona_num::gap;
 use nona_store::Store;
-use nona_tree::{Outcome, after_next, lengths_stay, loop_is_after, printed_grows, scalars_stay};
+use nona_tree::{Outcome, after_next, loop_is_after, printed_grows};
 
 /// The most intervals that a log has.
 pub const MOST: usize = 1_048_576;
@@ -33,8 +33,6 @@ pub fn loops_of_entries()
     after_next();
     loop_is_after();
     printed_grows();
-    scalars_stay();
-    lengths_stay();
 }
 
 /// How many turns lie between the bounds of an entry's loop.

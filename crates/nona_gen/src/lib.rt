@@ -6,6 +6,7 @@
 #![tactic(auto)]
 
 mod emit;
+mod jumps;
 mod statements;
 mod units;
 
