@@ -1,4 +1,5 @@
 pub mod CodeEquations
+pub mod MainEquations
 pub mod Fewer
 pub mod Fits
 pub mod Emitting
