@@ -1,5 +1,6 @@
 pub mod CodeEquations
 pub mod MainEquations
+pub mod MainEmitting
 pub mod Fewer
 pub mod Fits
 pub mod Emitting

@@ -1,4 +1,5 @@
 pub mod Code
 pub mod Fit
 pub mod MainCode
+pub mod MainParts
 pub mod Units

@@ -7,6 +7,7 @@
 
 mod emit;
 mod jumps;
+mod main_code;
 mod statements;
 mod units;
 

@@ -12,7 +12,7 @@ use nona_tree::{Expr, Loop, Stmt};
 use std::alloc::AllocError;
 
 /// How many scalars statements declare where they stand.
-fn count_lets(body: &[Stmt]) -> Result<u32, AllocError>
+pub(crate) fn count_lets(body: &[Stmt]) -> Result<u32, AllocError>
     ensures { IfOk result (λ count. count ≡ lets_all body.now) }
 {
     let mut count = 0u32;
@@ -25,7 +25,7 @@ fn count_lets(body: &[Stmt]) -> Result<u32, AllocError>
 }
 
 /// What leaves so many scalars.
-fn put_leave(count: u32, code: &mut Vec<Instr>) -> Result<(), AllocError>
+pub(crate) fn put_leave(count: u32, code: &mut Vec<Instr>) -> Result<(), AllocError>
     ensures { OnOk result (code.new.items ≡ code.old.items ++ leave_code count) }
 {
     if count > 0 {

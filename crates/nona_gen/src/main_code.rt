@@ -1,0 +1,192 @@
+//! The code of main statements, which stops at their regions.
+
+ghost use Rattle.std.specs.Prelude.{◌≡◌, ◌+◌, ◌++◌, length, IfOk, OnOk};
+ghost use Rattle.nona_tree.specs.Entries.{count_in, count_all};
+ghost use Rattle.nona_gen.specs.Code.{expr_code, stmt_code};
+ghost use Rattle.nona_gen.specs.MainCode.{region_code, main_code, main_all, program_code};
+ghost use Rattle.nona_gen.specs.MainParts.{main_block, main_loop, main_turns};
+ghost use Rattle.nona_stages.specs.PlaceSet.{is_in_set};
+
+use crate::emit::{emit_expr, emit_then, put};
+use crate::jumps::{
+    close_for, close_if, close_while, one_more, open_for, open_if, open_while, turn_if,
+};
+use crate::statements::{count_lets, emit_stmt, put_leave};
+use nona_stages::has;
+use nona_code::Instr;
+use nona_tree::{Expr, Loop, Stmt};
+use std::alloc::{AllocError, Global};
+use std::collections::BTreeSet;
+
+/// Where main statements stand: the number of the first region in them, counted from 1, and in how many loops they are.
+#[derive(Clone, Copy)]
+struct Standing {
+    first: u32,
+    depth: u32,
+}
+
+/// A region with this number: its bounds, and the stop. The answer is the number of the next region.
+fn emit_region(l: &Loop, number: u32, code: &mut Vec<Instr>) -> Result<u32, AllocError>
+    ensures code { OnOk result (code.new.items ≡ code.old.items ++ region_code number (expr_code l.now.low) (expr_code l.now.high)) }
+    ensures next { IfOk result (λ next. next ≡ number + 1) }
+{
+    emit_expr(&l.low, code)?;
+    emit_then(&l.high, Instr::Region(number), code)?;
+    one_more(number)
+}
+
+/// A statement in which no region can stand.
+fn emit_plain(s: &Stmt, at: Standing, code: &mut Vec<Instr>) -> Result<u32, AllocError>
+    ensures code { OnOk result (code.new.items ≡ code.old.items ++ stmt_code s.now at.depth (length code.old.items)) }
+    ensures next { IfOk result (λ next. next ≡ at.first) }
+{
+    emit_stmt(s, at.depth, code)?;
+    Ok(at.first)
+}
+
+/// What stands in one loop more.
+fn deeper(at: Standing) -> Result<Standing, AllocError>
+    ensures { IfOk result (λ inside. inside ≡ record { first = at.first; depth = at.depth + 1 }) }
+{
+    Ok(Standing {
+        first: at.first,
+        depth: one_more(at.depth)?,
+    })
+}
+
+/// Main statements one after another. The answer is the number of the next region.
+#[cycle(main)]
+fn emit_main_all(
+    body: &[Stmt],
+    places: &BTreeSet<u32>,
+    at: Standing,
+    code: &mut Vec<Instr>,
+) -> Result<u32, AllocError>
+    ensures code { OnOk result (code.new.items ≡ code.old.items ++ main_all (is_in_set places.now) at.first body.now at.depth (length code.old.items)) }
+    ensures next { IfOk result (λ next. next ≡ at.first + count_all (is_in_set places.now) body.now) }
+{
+    let mut first = at.first;
+    for s in body {
+        let here = Standing {
+            first,
+            depth: at.depth,
+        };
+        first = emit_main(s, places, here, code)?;
+    }
+    Ok(first)
+}
+
+/// A block of main statements.
+#[cycle(main)]
+fn emit_main_block(
+    body: &[Stmt],
+    places: &BTreeSet<u32>,
+    at: Standing,
+    code: &mut Vec<Instr>,
+) -> Result<u32, AllocError>
+    ensures code { OnOk result (code.new.items ≡ code.old.items ++ main_block (is_in_set places.now) at.first body.now at.depth (length code.old.items)) }
+    ensures next { IfOk result (λ next. next ≡ at.first + count_all (is_in_set places.now) body.now) }
+{
+    let next = emit_main_all(body, places, at, code)?;
+    let count = count_lets(body)?;
+    put_leave(count, code)?;
+    Ok(next)
+}
+
+/// A `while` of main statements.
+#[cycle(main)]
+fn emit_main_while(
+    body: &[Stmt],
+    test: &Expr,
+    word: u32,
+    places: &BTreeSet<u32>,
+    at: Standing,
+    code: &mut Vec<Instr>,
+) -> Result<u32, AllocError>
+    ensures code { OnOk result (code.new.items ≡ code.old.items ++ main_loop (is_in_set places.now) at.first test.now body.now word at.depth (length code.old.items)) }
+    ensures next { IfOk result (λ next. next ≡ at.first + count_all (is_in_set places.now) body.now) }
+{
+    let inside = deeper(at)?;
+    let begin = open_while(word, at.depth, code)?;
+    let next = emit_main_block(body, places, inside, code)?;
+    close_while(test, begin, code)?;
+    Ok(next)
+}
+
+/// A `for` of main statements, which is no region.
+#[cycle(main)]
+fn emit_main_for(
+    l: &Loop,
+    places: &BTreeSet<u32>,
+    at: Standing,
+    code: &mut Vec<Instr>,
+) -> Result<u32, AllocError>
+    ensures code { OnOk result (code.new.items ≡ code.old.items ++ main_turns (is_in_set places.now) at.first l.now at.depth (length code.old.items)) }
+    ensures next { IfOk result (λ next. next ≡ at.first + count_all (is_in_set places.now) l.now.body) }
+{
+    let inside = deeper(at)?;
+    let top = open_for(l, at.depth, code)?;
+    let next = emit_main_block(l.body.as_slice(), places, inside, code)?;
+    close_for(l, at.depth, top, code)?;
+    Ok(next)
+}
+
+/// A main statement, behind what is there. The answer is the number of the next region.
+#[cycle(main)]
+fn emit_main(
+    s: &Stmt,
+    places: &BTreeSet<u32>,
+    at: Standing,
+    code: &mut Vec<Instr>,
+) -> Result<u32, AllocError>
+    ensures code { OnOk result (code.new.items ≡ code.old.items ++ main_code (is_in_set places.now) at.first s.now at.depth (length code.old.items)) }
+    ensures next { IfOk result (λ next. next ≡ at.first + count_in (is_in_set places.now) s.now) }
+{
+    match s {
+        Stmt::Let { .. } => emit_plain(s, at, code),
+        Stmt::Set { .. } => emit_plain(s, at, code),
+        Stmt::Fold { .. } => emit_plain(s, at, code),
+        Stmt::Put { .. } => emit_plain(s, at, code),
+        Stmt::FoldPut { .. } => emit_plain(s, at, code),
+        Stmt::Print { .. } => emit_plain(s, at, code),
+        Stmt::If { test, yes, no } => {
+            let hole = open_if(test, code)?;
+            let first = emit_main_block(yes.as_slice(), places, at, code)?;
+            let last = turn_if(hole, code)?;
+            let other = Standing {
+                first,
+                depth: at.depth,
+            };
+            let next = emit_main_block(no.as_slice(), places, other, code)?;
+            close_if(last, code)?;
+            Ok(next)
+        }
+        Stmt::While {
+            test,
+            body,
+            at: word,
+        } => emit_main_while(body.as_slice(), test, *word, places, at, code),
+        Stmt::For(l) => {
+            if has(places, l) {
+                emit_region(l, at.first, code)
+            } else {
+                emit_main_for(l, places, at, code)
+            }
+        }
+    }
+}
+
+/// The main code of statements whose regions have these places, of which nothing is verified yet. The one error is that memory
+/// ran out; code of 2^31 instructions or more is want of memory.
+pub(crate) fn emit_program(
+    alloc: Global,
+    body: &[Stmt],
+    places: &BTreeSet<u32>,
+) -> Result<Vec<Instr>, AllocError>
+    ensures { IfOk result (λ code. code.items ≡ program_code (is_in_set places.now) body.now) }
+{
+    let mut code = Vec::new(alloc);
+    emit_main_all(body, places, Standing { first: 1, depth: 0 }, &mut code)?;
+    put(&mut code, Instr::Stop)?;
+    Ok(code)
+}
