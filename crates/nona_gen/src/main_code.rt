@@ -1,6 +1,6 @@
 //! The code of main statements, which stops at their regions.
 
-ghost use Rattle.std.specs.Prelude.{◌≡◌, ◌+◌, ◌++◌, length, IfOk, OnOk};
+ghost use Rattle.std.specs.Prelude.{◌≡◌, ◌<◌, ◌+◌, ◌^◌, ◌++◌, length, IfOk, OnOk};
 ghost use Rattle.nona_tree.specs.Entries.{count_in, count_all};
 ghost use Rattle.nona_gen.specs.Code.{expr_code, stmt_code};
 ghost use Rattle.nona_gen.specs.MainCode.{region_code, main_code, main_all, program_code};
@@ -46,7 +46,8 @@ fn emit_plain(s: &Stmt, at: Standing, code: &mut Vec<Instr>) -> Result<u32, Allo
 
 /// What stands in one loop more.
 fn deeper(at: Standing) -> Result<Standing, AllocError>
-    ensures { IfOk result (λ inside. inside ≡ record { first = at.first; depth = at.depth + 1 }) }
+    ensures inside { IfOk result (λ inside. inside ≡ record { first = at.first; depth = at.depth + 1 }) }
+    ensures small { OnOk result (at.depth < 2 ^ 31) }
 {
     Ok(Standing {
         first: at.first,
