@@ -19,7 +19,7 @@ use Rattle.nona_main.specs.declared.frame.Stop.{Stop}
 use Rattle.nona_main.specs.declared.frame.Stop.TheVariants as stops
 use Rattle.nona_main.specs.Frame.{IsAtRegion, Stops, CanLeave}
 use Rattle.morta_task.specs.declared.opening.Opening.{Opening}
-use Rattle.morta_task.specs.declared.regions.RegionCode.{RegionCode}
+use Rattle.morta_task.specs.RegionView.{RegionView}
 use Rattle.morta_task.specs.ImageView.{is_region_of}
 use Rattle.morta_task.specs.Entries.{EntryView, entered, IsEntered}
 use Rattle.morta_task.specs.LogView.{LogView}
@@ -32,7 +32,7 @@ use Rattle.morta_exec.specs.MainRun.{Between, AtEntry, IsOver, IsOpened, to_come
 use Rattle.morta_exec.proofs.Growing.{some_same, front_is, extends_same}
 use Rattle.morta_exec.proofs.Coming.{Prints, opening, numbered_is, next_at}
 
-loop_run : (o : Opening) (code : RegionCode) (n : ℕ) (m : Memory) → run (For code.looped) n m ≡ whole_loop (entered o code.looped code.plan n m)
+loop_run : (o : Opening) (code : RegionView) (n : ℕ) (m : Memory) → run (For code.looped) n m ≡ whole_loop (entered o code.looped code.plan n m)
 unfolding whole_loop
 loop_run o code n m = refl
 

@@ -53,7 +53,7 @@ fn whole_end(image: &Image, entry: &Entry) -> Outcome
         Outcome::Done
     } else {
         Outcome::OutOfTurns {
-            at: image.region(entry.region()).looped.at,
+            at: image.region(entry.region()).place(),
         }
     }
 }

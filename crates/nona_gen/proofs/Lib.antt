@@ -3,6 +3,8 @@ pub mod MainEquations
 pub mod MainEmitting
 pub mod Fewer
 pub mod Fits
+pub mod Gathering
+pub mod RegionsCode
 pub mod Emitting
 pub mod Patching
 pub mod Values

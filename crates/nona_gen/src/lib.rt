@@ -6,6 +6,7 @@
 #![tactic(auto)]
 
 mod emit;
+mod gather;
 mod jumps;
 mod main_code;
 mod statements;
@@ -13,4 +14,4 @@ mod units;
 
 pub use emit::emit_expr;
 pub use statements::emit_stmt;
-pub use units::{checked_has_code, code_stands, generate_unit};
+pub use units::{checked_has_code, code_stands, generate_unit, regions_have_code};

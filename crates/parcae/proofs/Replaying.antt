@@ -7,7 +7,7 @@ use Rattle.nona_tree.specs.declared.trees.Loop.{Loop}
 use Rattle.nona_tree.specs.declared.trees.Program.{Program}
 use Rattle.nona_tree.specs.Memory.{Memory}
 use Rattle.nona_tree.specs.Run.{Ran, start_of, meaning_of}
-use Rattle.morta_task.specs.declared.regions.RegionCode.{RegionCode}
+use Rattle.morta_task.specs.RegionView.{RegionView}
 use Rattle.morta_task.specs.declared.schemes.Scheme.{Scheme}
 use Rattle.morta_task.specs.declared.schemes.Scheme.TheVariants.{Seq, Any, Pipe}
 use Rattle.morta_task.specs.Entries.{EntryView, seq_plan}
@@ -35,9 +35,9 @@ use Rattle.parcae.specs.Due.{replay_image, entries_in, DueOfDrive, drive_full, d
 use Rattle.parcae.proofs.Ending.{ends_behind}
 
 -- each region of a program in sequence has the plan of `seq` alone
-in_seq_at : (loops : List Loop) (k : ℕ) (code : RegionCode) → slice_get (map in_sequence loops) k ≡ Some code → code.plan ≡ seq_plan
+in_seq_at : (loops : List Loop) (k : ℕ) (code : RegionView) → slice_get (map in_sequence loops) k ≡ Some code → code.plan ≡ seq_plan
 in_seq_at [] k code e = cc
-in_seq_at (l ∷ loops) zero code e = let is : in_sequence l ≡ code = cc in ap (λ (c : RegionCode). c.plan) (sym is)
+in_seq_at (l ∷ loops) zero code e = let is : in_sequence l ≡ code = cc in ap (λ (c : RegionView). c.plan) (sym is)
 in_seq_at (l ∷ loops) (suc k) code e = in_seq_at loops k code e
 
 -- a plan of `seq` alone has no other version
