@@ -4,19 +4,18 @@ ghost use Rattle.std.specs.Prelude.{◌≡◌, ◌<◌, ◌+◌, ◌^◌, ◌++�
 ghost use Rattle.nona_tree.specs.Entries.{count_in, count_all};
 ghost use Rattle.nona_gen.specs.Code.{expr_code, stmt_code};
 ghost use Rattle.nona_gen.specs.MainCode.{region_code, main_code, main_all, program_code};
+ghost use Rattle.nona_gen.specs.Gathered.{is_seen};
 ghost use Rattle.nona_gen.specs.MainParts.{main_block, main_loop, main_turns};
-ghost use Rattle.nona_stages.specs.PlaceSet.{is_in_set};
 
 use crate::emit::{emit_expr, emit_then, put};
 use crate::jumps::{
     close_for, close_if, close_while, one_more, open_for, open_if, open_while, turn_if,
 };
 use crate::statements::{count_lets, emit_stmt, put_leave};
-use nona_stages::has;
+use nona_stages::Plans;
 use nona_code::Instr;
 use nona_tree::{Expr, Loop, Stmt};
 use std::alloc::{AllocError, Global};
-use std::collections::BTreeSet;
 
 /// Where main statements stand: the number of the first region in them, counted from 1, and in how many loops they are.
 #[derive(Clone, Copy)]
@@ -59,12 +58,12 @@ fn deeper(at: Standing) -> Result<Standing, AllocError>
 #[cycle(main)]
 fn emit_main_all(
     body: &[Stmt],
-    places: &BTreeSet<u32>,
+    plans: &Plans<'_>,
     at: Standing,
     code: &mut Vec<Instr>,
 ) -> Result<u32, AllocError>
-    ensures code { OnOk result (code.new.items ≡ code.old.items ++ main_all (is_in_set places.now) at.first body.now at.depth (length code.old.items)) }
-    ensures next { IfOk result (λ next. next ≡ at.first + count_all (is_in_set places.now) body.now) }
+    ensures code { OnOk result (code.new.items ≡ code.old.items ++ main_all (is_seen plans.now) at.first body.now at.depth (length code.old.items)) }
+    ensures next { IfOk result (λ next. next ≡ at.first + count_all (is_seen plans.now) body.now) }
 {
     let mut first = at.first;
     for s in body {
@@ -72,7 +71,7 @@ fn emit_main_all(
             first,
             depth: at.depth,
         };
-        first = emit_main(s, places, here, code)?;
+        first = emit_main(s, plans, here, code)?;
     }
     Ok(first)
 }
@@ -81,14 +80,14 @@ fn emit_main_all(
 #[cycle(main)]
 fn emit_main_block(
     body: &[Stmt],
-    places: &BTreeSet<u32>,
+    plans: &Plans<'_>,
     at: Standing,
     code: &mut Vec<Instr>,
 ) -> Result<u32, AllocError>
-    ensures code { OnOk result (code.new.items ≡ code.old.items ++ main_block (is_in_set places.now) at.first body.now at.depth (length code.old.items)) }
-    ensures next { IfOk result (λ next. next ≡ at.first + count_all (is_in_set places.now) body.now) }
+    ensures code { OnOk result (code.new.items ≡ code.old.items ++ main_block (is_seen plans.now) at.first body.now at.depth (length code.old.items)) }
+    ensures next { IfOk result (λ next. next ≡ at.first + count_all (is_seen plans.now) body.now) }
 {
-    let next = emit_main_all(body, places, at, code)?;
+    let next = emit_main_all(body, plans, at, code)?;
     let count = count_lets(body)?;
     put_leave(count, code)?;
     Ok(next)
@@ -100,16 +99,16 @@ fn emit_main_while(
     body: &[Stmt],
     test: &Expr,
     word: u32,
-    places: &BTreeSet<u32>,
+    plans: &Plans<'_>,
     at: Standing,
     code: &mut Vec<Instr>,
 ) -> Result<u32, AllocError>
-    ensures code { OnOk result (code.new.items ≡ code.old.items ++ main_loop (is_in_set places.now) at.first test.now body.now word at.depth (length code.old.items)) }
-    ensures next { IfOk result (λ next. next ≡ at.first + count_all (is_in_set places.now) body.now) }
+    ensures code { OnOk result (code.new.items ≡ code.old.items ++ main_loop (is_seen plans.now) at.first test.now body.now word at.depth (length code.old.items)) }
+    ensures next { IfOk result (λ next. next ≡ at.first + count_all (is_seen plans.now) body.now) }
 {
     let inside = deeper(at)?;
     let begin = open_while(word, at.depth, code)?;
-    let next = emit_main_block(body, places, inside, code)?;
+    let next = emit_main_block(body, plans, inside, code)?;
     close_while(test, begin, code)?;
     Ok(next)
 }
@@ -118,16 +117,16 @@ fn emit_main_while(
 #[cycle(main)]
 fn emit_main_for(
     l: &Loop,
-    places: &BTreeSet<u32>,
+    plans: &Plans<'_>,
     at: Standing,
     code: &mut Vec<Instr>,
 ) -> Result<u32, AllocError>
-    ensures code { OnOk result (code.new.items ≡ code.old.items ++ main_turns (is_in_set places.now) at.first l.now at.depth (length code.old.items)) }
-    ensures next { IfOk result (λ next. next ≡ at.first + count_all (is_in_set places.now) l.now.body) }
+    ensures code { OnOk result (code.new.items ≡ code.old.items ++ main_turns (is_seen plans.now) at.first l.now at.depth (length code.old.items)) }
+    ensures next { IfOk result (λ next. next ≡ at.first + count_all (is_seen plans.now) l.now.body) }
 {
     let inside = deeper(at)?;
     let top = open_for(l, at.depth, code)?;
-    let next = emit_main_block(l.body.as_slice(), places, inside, code)?;
+    let next = emit_main_block(l.body.as_slice(), plans, inside, code)?;
     close_for(l, at.depth, top, code)?;
     Ok(next)
 }
@@ -136,12 +135,12 @@ fn emit_main_for(
 #[cycle(main)]
 fn emit_main(
     s: &Stmt,
-    places: &BTreeSet<u32>,
+    plans: &Plans<'_>,
     at: Standing,
     code: &mut Vec<Instr>,
 ) -> Result<u32, AllocError>
-    ensures code { OnOk result (code.new.items ≡ code.old.items ++ main_code (is_in_set places.now) at.first s.now at.depth (length code.old.items)) }
-    ensures next { IfOk result (λ next. next ≡ at.first + count_in (is_in_set places.now) s.now) }
+    ensures code { OnOk result (code.new.items ≡ code.old.items ++ main_code (is_seen plans.now) at.first s.now at.depth (length code.old.items)) }
+    ensures next { IfOk result (λ next. next ≡ at.first + count_in (is_seen plans.now) s.now) }
 {
     match s {
         Stmt::Let { .. } => emit_plain(s, at, code),
@@ -152,13 +151,13 @@ fn emit_main(
         Stmt::Print { .. } => emit_plain(s, at, code),
         Stmt::If { test, yes, no } => {
             let hole = open_if(test, code)?;
-            let first = emit_main_block(yes.as_slice(), places, at, code)?;
+            let first = emit_main_block(yes.as_slice(), plans, at, code)?;
             let last = turn_if(hole, code)?;
             let other = Standing {
                 first,
                 depth: at.depth,
             };
-            let next = emit_main_block(no.as_slice(), places, other, code)?;
+            let next = emit_main_block(no.as_slice(), plans, other, code)?;
             close_if(last, code)?;
             Ok(next)
         }
@@ -166,28 +165,28 @@ fn emit_main(
             test,
             body,
             at: word,
-        } => emit_main_while(body.as_slice(), test, *word, places, at, code),
+        } => emit_main_while(body.as_slice(), test, *word, plans, at, code),
         Stmt::For(l) => {
-            if has(places, l) {
+            if plans.has(l) {
                 emit_region(l, at.first, code)
             } else {
-                emit_main_for(l, places, at, code)
+                emit_main_for(l, plans, at, code)
             }
         }
     }
 }
 
-/// The main code of statements whose regions have these places, of which nothing is verified yet. The one error is that memory
+/// The main code of statements whose regions have these plans, of which nothing is verified yet. The one error is that memory
 /// ran out; code of 2^31 instructions or more is want of memory.
 pub(crate) fn emit_program(
     alloc: Global,
     body: &[Stmt],
-    places: &BTreeSet<u32>,
+    plans: &Plans<'_>,
 ) -> Result<Vec<Instr>, AllocError>
-    ensures { IfOk result (λ code. code.items ≡ program_code (is_in_set places.now) body.now) }
+    ensures { IfOk result (λ code. code.items ≡ program_code (is_seen plans.now) body.now) }
 {
     let mut code = Vec::new(alloc);
-    emit_main_all(body, places, Standing { first: 1, depth: 0 }, &mut code)?;
+    emit_main_all(body, plans, Standing { first: 1, depth: 0 }, &mut code)?;
     put(&mut code, Instr::Stop)?;
     Ok(code)
 }

@@ -3,7 +3,7 @@ use Rattle.nona_tree.specs.Entries.{count_in, count_all}
 use Rattle.nona_gen.specs.Code.{expr_code, flip_code, lets_all, bounds_code}
 use Rattle.nona_gen.specs.MainCode.{main_code, main_all}
 use Rattle.nona_gen.specs.MainParts.{main_block, main_loop}
-use Rattle.nona_stages.specs.PlaceSet.{is_in_set}
+use Rattle.nona_gen.specs.Gathered.{is_seen}
 use Rattle.nona_gen.proofs.Emitting.{on_ok_as, if_ok_as}
 use Rattle.nona_gen.proofs.Patching.{if_emitted, while_emitted, for_emitted}
 use Rattle.nona_gen.proofs.MainEmitting.{count_if, count_while, count_for, count_region, code_if, code_while, code_for, code_region}
@@ -12,7 +12,7 @@ use Rattle.nona_gen.proofs.main_code.+main.Goals as goal
 pub emit_main_for-returns-clause-code : goal.emit_main_for-returns-clause-code
 emit_main_for-returns-clause-code t c =
     let l = c.args.l.now in
-    let chosen = is_in_set c.args.places.now in
+    let chosen = is_seen c.args.plans.now in
     let first = c.args.at.first in
     let d = c.args.at.depth in
     let c1 = c.open_for.new.code.items in
@@ -23,7 +23,7 @@ emit_main_for-returns-clause-code t c =
 
 pub emit_main_while-returns-clause-code : goal.emit_main_while-returns-clause-code
 emit_main_while-returns-clause-code t c =
-    let chosen = is_in_set c.args.places.now in
+    let chosen = is_seen c.args.plans.now in
     let first = c.args.at.first in
     let d = c.args.at.depth in
     let c1 = c.open_while.new.code.items in
@@ -34,7 +34,7 @@ emit_main_while-returns-clause-code t c =
 
 pub emit_main-returns-in_ok-close_if-in-If-clause-code : goal.emit_main-returns-in_ok-close_if-in-If-clause-code
 emit_main-returns-in_ok-close_if-in-If-clause-code t c =
-    let chosen = is_in_set c.args.places.now in
+    let chosen = is_seen c.args.plans.now in
     let first = c.args.at.first in
     let d = c.args.at.depth in
     let b = c.in-If in
@@ -52,13 +52,13 @@ emit_main-returns-in_ok-close_if-in-If-clause-code t c =
 
 pub emit_main-returns-in_ok-close_if-in-If-clause-next : goal.emit_main-returns-in_ok-close_if-in-If-clause-next
 emit_main-returns-in_ok-close_if-in-If-clause-next t c =
-    let chosen = is_in_set c.args.places.now in
+    let chosen = is_seen c.args.plans.now in
     let b = c.in-If in
     omega (arith, c.in_ok-first-in-If.ensures.next, ap (count_all chosen) c.as_slice.ensures, c.in_ok-next-in-If.ensures.next, ap (count_all chosen) c.as_slice-in-If.ensures, count_if chosen _ b.test b.yes b.no b.is)
 
 pub emit_main-returns-in-While-clause-code : goal.emit_main-returns-in-While-clause-code
 emit_main-returns-in-While-clause-code t c =
-    let chosen = is_in_set c.args.places.now in
+    let chosen = is_seen c.args.plans.now in
     let first = c.args.at.first in
     let d = c.args.at.depth in
     let b = c.in-While in
@@ -69,7 +69,7 @@ emit_main-returns-in-While-clause-code t c =
 
 pub emit_main-returns-in-While-clause-next : goal.emit_main-returns-in-While-clause-next
 emit_main-returns-in-While-clause-next t c =
-    let chosen = is_in_set c.args.places.now in
+    let chosen = is_seen c.args.plans.now in
     let b = c.in-While in
     if_ok_as c.emit_main_while.result _ _
     (λ next e. e ∙ ap (λ ss. c.args.at.first + count_all chosen ss) c.as_slice-in-While.ensures ∙ ap (λ k. c.args.at.first + k) (sym (count_while chosen _ b.test b.body b.word b.is)))
@@ -77,7 +77,7 @@ emit_main-returns-in-While-clause-next t c =
 
 pub emit_main-returns-else-has-clause-code : goal.emit_main-returns-else-has-clause-code
 emit_main-returns-else-has-clause-code t c =
-    let chosen = is_in_set c.args.places.now in
+    let chosen = is_seen c.args.plans.now in
     let first = c.args.at.first in
     let d = c.args.at.depth in
     let old = c.args.code.now.items in
@@ -87,7 +87,7 @@ emit_main-returns-else-has-clause-code t c =
 
 pub emit_main-returns-else-has-clause-next : goal.emit_main-returns-else-has-clause-next
 emit_main-returns-else-has-clause-next t c =
-    let chosen = is_in_set c.args.places.now in
+    let chosen = is_seen c.args.plans.now in
     if_ok_as c.emit_main_for.result _ _
     (λ next e. e ∙ ap (λ k. c.args.at.first + k) (sym (count_for chosen _ c.in-For.l c.in-For.is (sym c.has.ensures ∙ c.if-has.false))))
     c.emit_main_for.ensures.next
