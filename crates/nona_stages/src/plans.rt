@@ -1,8 +1,9 @@
 //! Regions by the places of their words `for`.
 
-ghost use Rattle.std.specs.Prelude.{◌≡◌, IfOk};
+ghost use Rattle.std.specs.Prelude.{◌≡◌, IfOk, OnOk};
 ghost use Rattle.nona_tree.specs.Entries.{is_among};
 ghost use Rattle.nona_stages.specs.Seen.{regions_of, seen_places, plan_at, seq_plan};
+ghost use Rattle.nona_stages.specs.PlansInside.{HasAdded};
 
 use crate::seen::Seen;
 use nona_tree::{Loop, Plan};
@@ -43,6 +44,19 @@ pub(crate) fn seq_plan(alloc: Global) -> Plan
     }
 }
 
+/// Adds what is seen with this index in front of what was added.
+fn add(one: &Seen, index: usize, by_place: &mut BTreeMap<u32, usize>) -> Result<(), AllocError>
+    ensures { OnOk result (HasAdded by_place.old by_place.new one.now index) }
+{
+    match one {
+        Seen::Region(region) => {
+            by_place.insert(region.at, index)?;
+            Ok(())
+        }
+        Seen::Plain { at: _, why: _ } => Ok(()),
+    }
+}
+
 impl<'a> Plans<'a> {
     /// The regions that are seen. Takes time in proportion to their number and its logarithm. It is refused for want of memory
     /// alone.
@@ -52,9 +66,7 @@ impl<'a> Plans<'a> {
         let mut by_place = BTreeMap::new(alloc);
         'regions: for passed in 0..seen.len() {
             let at = seen.len() - 1 - passed;
-            if let Seen::Region(region) = &seen[at] {
-                by_place.insert(region.at, at)?;
-            }
+            add(&seen[at], at, &mut by_place)?;
         }
         Ok(Plans { seen, by_place })
     }

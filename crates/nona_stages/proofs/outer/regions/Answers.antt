@@ -1,9 +1,7 @@
-use Rattle.std.proofs.Common.{◌≡◌, ◌+◌, ◌<◌, ◌^◌, ℕ, List, length, sym, ap, subst, ◌∙◌, All}
+use Rattle.std.proofs.Common.{◌+◌, ◌<◌, ◌^◌, ℕ, List, length, sym, ap, subst, ◌∙◌}
 use Rattle.nona_tree.specs.Entries.{may_reshape}
 use Rattle.nona_stages.specs.declared.outer.Mark.{Mark}
-use Rattle.nona_stages.specs.declared.seen.Region.{Region}
-use Rattle.nona_stages.specs.declared.seen.Seen.{Seen}
-use Rattle.nona_stages.specs.Seen.{seen_from, regions_of, seen_places, seq_plan}
+use Rattle.nona_stages.specs.Seen.{seen_from, regions_of}
 use Rattle.nona_stages.proofs.Gathered.{gathered, seen_count}
 use Rattle.nona_stages.proofs.outer.regions.Goals as goal
 

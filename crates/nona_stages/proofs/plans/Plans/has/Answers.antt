@@ -1,4 +1,4 @@
-use Rattle.std.proofs.Common.{◌≡◌, List, ap, ◌∙◌}
+use Rattle.std.proofs.Common.{List, ap, ◌∙◌}
 use Rattle.nona_tree.specs.Entries.{is_among}
 use Rattle.nona_stages.specs.declared.seen.Seen.{Seen}
 use Rattle.nona_stages.specs.Seen.{regions_of, seen_places}

@@ -1,5 +1,5 @@
 use Rattle.std.proofs.Common.{◌-◌, drop, length}
-use Rattle.nona_stages.proofs.Places.{AreIndexed}
+use Rattle.nona_stages.specs.PlansInside.{AreIndexed}
 use Rattle.nona_stages.proofs.plans.Plans.of.Given as goal
 
 -- the places of what was passed have their indices
