@@ -1,4 +1,4 @@
-use Rattle.std.proofs.Common.{◌≤◌, ◌-◌, length, sym, ap, subst, ◌∙◌, arith}
+use Rattle.std.proofs.Common.{◌-◌, length, sym, ap, ◌∙◌, arith}
 use Rattle.nona_tree.specs.Memory.{cut_to}
 use Rattle.nona_main.specs.Course as course
 use Rattle.nona_code.specs.Machine.{open_at}
