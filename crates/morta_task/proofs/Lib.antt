@@ -1,3 +1,2 @@
-pub mod Gathered
-pub mod OfChecked
+pub mod OfRegions
 pub mod Says

@@ -9,8 +9,8 @@ abbrev pub view_of : Inside → EntryView
 view_of a = record {
   number = a.number;
   region = a.region;
-  looped = a.looped.value;
-  plan = a.plan.value;
+  looped = a.code.value.looped;
+  plan = a.code.value.plan;
   low = a.low;
   high = a.high;
   turns = a.turns;

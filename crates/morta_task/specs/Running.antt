@@ -7,7 +7,7 @@ use Rattle.nona_tree.specs.declared.outcomes.Outcome.TheVariants as outcome
 use Rattle.nona_tree.specs.declared.plans.Plan.{Plan}
 use Rattle.nona_tree.specs.declared.trees.Loop.{Loop}
 use Rattle.nona_tree.specs.Run.{done}
-use Rattle.morta_task.specs.declared.regions.RegionCode.{RegionCode}
+use Rattle.morta_task.specs.RegionView.{RegionView}
 use Rattle.morta_task.specs.declared.schemes.Scheme.{Scheme}
 use Rattle.morta_task.specs.declared.schemes.Scheme.TheVariants.{Seq, Any, Pipe}
 use Rattle.morta_task.specs.declared.schemes.Config.{Config}
@@ -49,7 +49,7 @@ limit_of e from until = limited (int_gap from (last e)) until
 
 -- the region of an entry is in the image, with the loop and the plan that the entry names
 pub record IsIn (e : EntryView) (image : ImageView) : Type 0 where
-  pub code : RegionCode
+  pub code : RegionView
   pub first : 1 ≤ e.region
   pub there : slice_get image.regions (e.region - 1) ≡ Some code
   pub looped : code.looped ≡ e.looped

@@ -7,7 +7,6 @@ use crate::regions::RegionCode;
 use crate::schemes::Scheme;
 use nona_num::{gap, offset};
 use nona_store::Store;
-use nona_tree::{Loop, Plan};
 use std::marker::Model;
 use std::snapshot::Snapshot;
 
@@ -23,8 +22,7 @@ pub struct Entry {
     turns: u64,
     any: bool,
     pipe: bool,
-    looped: Snapshot<Loop>,
-    plan: Snapshot<Plan>,
+    code: Snapshot<RegionCode>,
     store: Snapshot<Store>,
 }
 
@@ -72,10 +70,9 @@ impl Entry {
             high,
             last: last_index(low, high, turns),
             turns,
-            any: code.plan.any,
-            pipe: !code.plan.pipe.is_empty(),
-            looped: Snapshot::of(&code.looped),
-            plan: Snapshot::of(&code.plan),
+            any: code.plan().any,
+            pipe: !code.plan().pipe.is_empty(),
+            code: Snapshot::of(code),
             store: Snapshot::of(store),
         }
     }

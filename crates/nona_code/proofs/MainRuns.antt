@@ -1,7 +1,6 @@
 -- Where main code stops, and what it still has to come there.
-use Rattle.std.proofs.Common.{◌≡◌, ◌≢◌, ℕ, zero, suc, ◌+◌, ◌-◌, ◌≤◌, Bool, true, false, if◌then◌else◌, ℤ, pos, List, [], ◌∷◌, length, Option, Some, None, refl, sym, ap, subst, ◌∙◌, arith, FitsSigned, w64, to_z, of_z}
-use Rattle.std.specs.Prelude.{Result, Ok, Err, nat_lt, nat_le, slice_get, slice_set, slice_index_or, unsigned_abs}
-use Rattle.std.proofs.lemmas.Int.{to_z-of_z}
+use Rattle.std.proofs.Common.{◌≡◌, ◌≢◌, ℕ, zero, suc, ◌+◌, ◌-◌, ◌≤◌, if◌then◌else◌, ℤ, pos, List, [], ◌∷◌, length, Option, Some, None, refl, sym, ap, subst, ◌∙◌, arith}
+use Rattle.std.specs.Prelude.{Ok, nat_lt, nat_le, slice_get, slice_set, slice_index_or, unsigned_abs}
 use Rattle.nona_num.specs.Folds.{join_of}
 use Rattle.nona_tree.specs.declared.outcomes.Outcome.{Outcome}
 use Rattle.nona_tree.specs.declared.outcomes.Outcome.TheVariants as outcome
@@ -22,13 +21,10 @@ use Rattle.nona_code.specs.Main.{HaltsAt, behind, Left, over, stops, leaves}
 use Rattle.nona_code.specs.MainPrints.{one_next, two_next, so_next, if_next, given_next}
 use Rattle.nona_code.specs.Rule.{Way, goes_on, IsSound}
 use Rattle.nona_code.specs.declared.main_frame.CodeFrame.{CodeFrame}
-use Rattle.nona_code.specs.declared.registers.Registers.{Registers}
 use Rattle.nona_code.specs.MainLeft.{IsLeft, state_in}
-use Rattle.nona_code.specs.Ready.{state_of}
 use Rattle.nona_code.specs.SoundView.{SoundView, IsSoundView}
 use Rattle.nona_code.specs.Stops.{IsOver, Follows, IsOnWay}
 use Rattle.nona_code.proofs.Readiness.{Moves, follows}
-use Rattle.nona_code.proofs.Running.{moved}
 
 -- what holds of the state at a region, where an instruction stops there
 abbrev pub AtRegion : (State → Type 0) → Next → Type 0

@@ -1,21 +1,20 @@
 -- What is left to come of a frame for main code only adds to what is printed. It is the law `only_prints` of such a frame, and
 -- a law of a trait finds its proof only here.
-use Rattle.std.proofs.Common.{◌≡◌, ℕ, zero, suc, ◌+◌, ◌-◌, Bool, true, false, if◌then◌else◌, ℤ, pos, List, [], ◌∷◌, length, Option, Some, None, refl, sym, ap, subst}
+use Rattle.std.proofs.Common.{◌≡◌, ℕ, zero, suc, ◌+◌, ◌-◌, Bool, true, false, if◌then◌else◌, ℤ, pos, List, [], ◌∷◌, length, Option, Some, None, subst}
 use Rattle.std.specs.Prelude.{Result, Ok, Err, nat_lt, nat_le, slice_get, slice_set, slice_index_or, unsigned_abs}
 use Rattle.nona_num.specs.Folds.{join_of}
-use Rattle.nona_num.specs.Numbers.{neg_of}
 use Rattle.nona_tree.specs.declared.outcomes.Outcome.{Outcome}
 use Rattle.nona_tree.specs.declared.outcomes.Trap.{Trap}
 use Rattle.nona_tree.specs.declared.trees.Stmt.{For}
-use Rattle.nona_tree.specs.Memory.{Memory, scalar_at, cells_of, cell_at, assign, put_cell, cut_to}
+use Rattle.nona_tree.specs.Memory.{Memory, scalar_at, cells_of, cell_at, assign, put_cell}
 use Rattle.nona_tree.specs.Value.{place_of, apply}
-use Rattle.nona_tree.specs.Run.{Ran, run, trapped, starved}
+use Rattle.nona_tree.specs.Run.{run, trapped, starved}
 use Rattle.nona_tree.proofs.Keeps.{MorePrinted, printed_kept, run_kept}
 use Rattle.nona_main.specs.Course.{Course}
 use Rattle.nona_main.specs.Frame.{OnlyPrints}
 use Rattle.nona_code.specs.declared.instr.Instr.{Instr}
 use Rattle.nona_code.specs.declared.instr.Instr.TheVariants as instr
-use Rattle.nona_code.specs.Machine.{State, Halt, ended, region, stuck, Next, goes, halts, act, act_deeds, open_at, step_by, Trace, trace, onward, most_steps, take_one, take_two, where_so, given, given_by, pushed, stored, leave, first_hidden}
+use Rattle.nona_code.specs.Machine.{State, Halt, ended, region, stuck, Next, goes, halts, act, open_at, step_by, Trace, trace, onward, most_steps, take_one, take_two, where_so, given, given_by, pushed, stored, leave, first_hidden}
 use Rattle.nona_code.specs.Main.{Left, over, stops, leaves}
 use Rattle.nona_code.specs.MainLeft.{IsLeft}
 

@@ -1,5 +1,5 @@
 -- The loops outside regions, gathered one after another, and the regions among them.
-use Rattle.std.proofs.Common.{◌≡◌, ◌+◌, ℕ, Bool, true, false, List, [], ◌∷◌, ◌++◌, length, refl, sym, ap, ◌∙◌, append_assoc, if◌then◌else◌, All}
+use Rattle.std.proofs.Common.{◌≡◌, ◌+◌, ℕ, Bool, true, false, List, [], ◌∷◌, ◌++◌, ◌==◌, Some, length, refl, sym, ap, ◌∙◌, append_assoc, if◌then◌else◌, All}
 use Rattle.std.specs.Prelude.{map, OnOk, Result, Ok, Err}
 use Rattle.std.proofs.lemmas.List.{map-append, length-map}
 use Rattle.std.proofs.lemmas.List.Elements.{All-nil, All-cons}
@@ -12,7 +12,7 @@ use Rattle.nona_stages.specs.declared.outer.Mark.{Mark}
 use Rattle.nona_stages.specs.declared.seen.Region.{Region}
 use Rattle.nona_stages.specs.declared.seen.Seen.TheVariants as seen
 use Rattle.nona_stages.specs.declared.seen.Plain.TheVariants as why
-use Rattle.nona_stages.specs.Seen.{outer_in, outer_row, outer_all, mark_of, seen_from, regions_of, region_places, seq_plan}
+use Rattle.nona_stages.specs.Seen.{outer_in, outer_row, outer_all, mark_of, seen_from, regions_of, seen_places, seq_plan, region_at, plan_or_seq, plan_at}
 
 outer_row_at : (chosen : Loop → Bool) (k : _) (row : Row_of-Stmt k) → outer_row chosen row ≡ outer_all chosen (items-the_row-Stmt k row)
 outer_row_at chosen k end_of-Stmt = refl
@@ -128,39 +128,43 @@ marked_all (s ∷ rest) =
     marked_parts (outer_in may_reshape s) (outer_all may_reshape rest) (regions_in may_reshape s) (regions_all may_reshape rest) (marked_in s) (marked_all rest)
 
 seen_one : (b : Bool) (number at : ℕ) (rest : List Mark)
-    → region_places (seen_from (number + 1) rest) ≡ marked rest → region_places (seen_from number rest) ≡ marked rest
-    → region_places (if b then seen.Region (record { number = number; at = at; plan = seq_plan }) ∷ seen_from (number + 1) rest else seen.Plain at why.Seq ∷ seen_from number rest)
+    → seen_places (seen_from (number + 1) rest) ≡ marked rest → seen_places (seen_from number rest) ≡ marked rest
+    → seen_places (if b then seen.Region (record { number = number; at = at; plan = seq_plan }) ∷ seen_from (number + 1) rest else seen.Plain at why.Seq ∷ seen_from number rest)
     ≡ (if b then at ∷ marked rest else marked rest)
 seen_one true number at rest more same = ap (λ places. at ∷ places) more
 seen_one false number at rest more same = same
 
 -- the regions that are seen of marked loops stand at the marks that are regions
-seen_marked : (number : ℕ) (marks : List Mark) → region_places (seen_from number marks) ≡ marked marks
+seen_marked : (number : ℕ) (marks : List Mark) → seen_places (seen_from number marks) ≡ marked marks
 seen_marked number [] = refl
 seen_marked number (mark ∷ rest) = seen_one mark.region number mark.at rest (seen_marked (number + 1) rest) (seen_marked number rest)
 
 -- they are the regions of the program by the rule in force
-pub seen_places : (ss : List Stmt) → region_places (seen_from 1 (map mark_of (outer_all may_reshape ss))) ≡ places_of (regions_all may_reshape ss)
-seen_places ss = seen_marked 1 (map mark_of (outer_all may_reshape ss)) ∙ marked_all ss
+pub places_seen : (ss : List Stmt) → seen_places (seen_from 1 (map mark_of (outer_all may_reshape ss))) ≡ places_of (regions_all may_reshape ss)
+places_seen ss = seen_marked 1 (map mark_of (outer_all may_reshape ss)) ∙ marked_all ss
 
 -- there are as many
 pub seen_count : (ss : List Stmt) → length (regions_of (seen_from 1 (map mark_of (outer_all may_reshape ss)))) ≡ length (regions_all may_reshape ss)
 seen_count ss =
     sym (length-map (regions_of (seen_from 1 (map mark_of (outer_all may_reshape ss)))) (λ (r : Region). r.at))
-    ∙ ap length (seen_places ss) ∙ length-map (regions_all may_reshape ss) (λ (l : Loop). l.at)
+    ∙ ap length (places_seen ss) ∙ length-map (regions_all may_reshape ss) (λ (l : Loop). l.at)
 
-plans_one : (b : Bool) (number at : ℕ) (rest : List Mark)
-    → All (λ (r : Region). r.plan ≡ seq_plan) (regions_of (seen_from (number + 1) rest)) → All (λ (r : Region). r.plan ≡ seq_plan) (regions_of (seen_from number rest))
-    → All (λ (r : Region). r.plan ≡ seq_plan)
-    (regions_of (if b then seen.Region (record { number = number; at = at; plan = seq_plan }) ∷ seen_from (number + 1) rest else seen.Plain at why.Seq ∷ seen_from number rest))
-plans_one true number at rest more same =
-    All-cons (λ (r : Region). r.plan ≡ seq_plan) (record { number = number; at = at; plan = seq_plan }) (regions_of (seen_from (number + 1) rest)) refl more
-plans_one false number at rest more same = same
+at_place : (b : Bool) (r : Region) (rest : List Region) (at : ℕ) → r.plan ≡ seq_plan → plan_at rest at ≡ seq_plan
+    → plan_or_seq (if b then Some r else region_at rest at) ≡ seq_plan
+at_place true r rest at here behind = here
+at_place false r rest at here behind = behind
 
--- each of them runs in one thread alone
-pub seen_plans : (number : ℕ) (marks : List Mark) → All (λ (r : Region). r.plan ≡ seq_plan) (regions_of (seen_from number marks))
-seen_plans number [] = All-nil (λ (r : Region). r.plan ≡ seq_plan)
-seen_plans number (mark ∷ rest) = plans_one mark.region number mark.at rest (seen_plans (number + 1) rest) (seen_plans number rest)
+at_one : (b : Bool) (number place : ℕ) (rest : List Mark) (at : ℕ)
+    → plan_at (regions_of (seen_from (number + 1) rest)) at ≡ seq_plan → plan_at (regions_of (seen_from number rest)) at ≡ seq_plan
+    → plan_at (regions_of (if b then seen.Region (record { number = number; at = place; plan = seq_plan }) ∷ seen_from (number + 1) rest
+      else seen.Plain place why.Seq ∷ seen_from number rest)) at ≡ seq_plan
+at_one true number place rest at more same = at_place (place == at) (record { number = number; at = place; plan = seq_plan }) (regions_of (seen_from (number + 1) rest)) at refl more
+at_one false number place rest at more same = same
+
+-- the plan at each place has the version `seq` alone
+pub seq_at : (number : ℕ) (marks : List Mark) (at : ℕ) → plan_at (regions_of (seen_from number marks)) at ≡ seq_plan
+seq_at number [] at = refl
+seq_at number (mark ∷ rest) at = at_one mark.region number mark.at rest at (seq_at (number + 1) rest at) (seq_at number rest at)
 
 -- a mark that is a region, in front of others
 pub seen_region : (number : ℕ) (mark : Mark) (rest all : List Mark) → all ≡ mark ∷ rest → mark.region ≡ true

@@ -1,2 +1,2 @@
-pub mod PlaceSet
 pub mod Seen
+pub mod PlansInside

@@ -1,5 +1,5 @@
 -- The loops of a program outside regions, and what is seen of them by the rule in force.
-use Rattle.std.specs.Prelude.{ℕ, ◌+◌, Bool, false, if◌then◌else◌, List, [], ◌∷◌, ◌++◌, map}
+use Rattle.std.specs.Prelude.{ℕ, ◌+◌, ◌==◌, Option, None, Some, Bool, false, if◌then◌else◌, List, [], ◌∷◌, ◌++◌, map}
 use Rattle.nona_tree.specs.declared.plans.Plan.{Plan}
 use Rattle.nona_tree.specs.declared.trees.Loop.{Loop}
 use Rattle.nona_tree.specs.declared.trees.Program.{Program}
@@ -57,5 +57,19 @@ regions_of (seen.Region r ∷ rest) = r ∷ regions_of rest
 regions_of (seen.Plain at reason ∷ rest) = regions_of rest
 
 -- the places of their words `for`
-abbrev pub region_places : List Seen → List ℕ
-region_places all = map (λ (r : Region). r.at) (regions_of all)
+abbrev pub seen_places : List Seen → List ℕ
+seen_places all = map (λ (r : Region). r.at) (regions_of all)
+
+-- the first region whose word stands at a place
+abbrev pub region_at : List Region → ℕ → Option Region
+region_at [] at = None
+region_at (r ∷ rest) at = if r.at == at then Some r else region_at rest at
+
+-- the plan of a region, or of the version `seq` alone where there is none
+abbrev pub plan_or_seq : Option Region → Plan
+plan_or_seq None = seq_plan
+plan_or_seq (Some r) = r.plan
+
+-- the plan of the first region whose word stands at a place, or of the version `seq` alone where there is none
+abbrev pub plan_at : List Region → ℕ → Plan
+plan_at rs at = plan_or_seq (region_at rs at)

@@ -3,10 +3,12 @@
 //! `specs/` defines the loops outside regions and what is seen of them by the rule in force (`Seen`).
 #![tactic(auto)]
 
+mod laws;
 mod outer;
-mod place_set;
+mod plans;
 mod seen;
 
+pub use laws::regions_by_the_rule;
 pub use outer::regions;
-pub use place_set::{has, set_of};
+pub use plans::Plans;
 pub use seen::{Plain, Region, Seen};

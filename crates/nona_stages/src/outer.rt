@@ -2,12 +2,12 @@
 
 ghost use Rattle.std.specs.Prelude.{◌≡◌, ◌+◌, ◌<◌, ◌^◌, ◌++◌, map, length, All, IfOk, OnOk};
 ghost use Rattle.nona_tree.specs.Entries.{may_reshape, places_of, regions_all};
-ghost use Rattle.nona_stages.specs.Seen.{outer_in, outer_all, mark_of, seen_from, seen_of, regions_of, region_places, seq_plan};
+ghost use Rattle.nona_stages.specs.Seen.{outer_in, outer_all, mark_of, seen_from, seen_of, regions_of, seen_places, seq_plan};
 ghost use Rattle.nona_stages.specs.declared.seen.Region.{Region};
 
+use crate::plans::seq_plan;
 use crate::seen::{Plain, Region, Seen};
-use nona_tree::{Checked, Plan, Stmt, regions_keep};
-use sqlite_items::Items;
+use nona_tree::{Checked, Stmt, regions_keep};
 use std::alloc::{AllocError, Global};
 
 /// What is kept of a loop outside regions.
@@ -60,21 +60,6 @@ fn add(stmt: &Stmt, marks: &mut Vec<Mark>) -> Result<(), AllocError>
     }
 }
 
-/// The region with this number whose word `for` stands here, which has the version `seq` alone.
-fn in_sequence(alloc: Global, number: u32, at: u32) -> Region
-    ensures { result ≡ record { number = number; at = at; plan = seq_plan } }
-{
-    Region {
-        number,
-        at,
-        plan: Plan {
-            any: false,
-            pipe: Items::new(alloc),
-            crossing: Items::new(alloc),
-        },
-    }
-}
-
 /// What is seen of loops with these marks: the regions among them are numbered from 1 on.
 fn seen_by(alloc: Global, marks: &[Mark]) -> Result<Vec<Seen>, AllocError>
     requires { length (regions_of (seen_from 1 marks.now)) + 1 < 2 ^ 32 }
@@ -84,7 +69,11 @@ fn seen_by(alloc: Global, marks: &[Mark]) -> Result<Vec<Seen>, AllocError>
     let mut number = 1;
     for mark in marks {
         if mark.region {
-            seen.push(Seen::Region(in_sequence(alloc, number, mark.at)))?;
+            seen.push(Seen::Region(Region {
+                number,
+                at: mark.at,
+                plan: seq_plan(alloc),
+            }))?;
             number += 1;
         } else {
             seen.push(Seen::Plain {
@@ -100,13 +89,10 @@ fn seen_by(alloc: Global, marks: &[Mark]) -> Result<Vec<Seen>, AllocError>
 /// whose plan has the version `seq` alone, and one looks for further loops inside each that is. Takes time and memory in
 /// proportion to the program. It is refused for want of memory alone.
 pub fn regions(alloc: Global, program: &Checked) -> Result<Vec<Seen>, AllocError>
-    ensures seen { IfOk result (λ seen. seen.items ≡ seen_of program.now) }
-    ensures places { IfOk result (λ seen. region_places seen.items ≡ places_of (regions_all may_reshape program.now.body)) }
-    ensures plans { IfOk result (λ seen. All (λ (r : Region). r.plan ≡ seq_plan) (regions_of seen.items)) }
+    ensures { IfOk result (λ seen. seen.items ≡ seen_of program.now) }
 {
     regions_keep();
     let mut marks = Vec::new(alloc);
     add_all(program.program().body.as_slice(), &mut marks)?;
-    let seen = seen_by(alloc, &marks)?;
-    Ok(seen)
+    seen_by(alloc, &marks)
 }

@@ -1,5 +1,5 @@
 -- Code of statements, one after another.
-use Rattle.std.specs.Prelude.{◌≡◌, ◌≤◌, ℕ, List, [], ◌∷◌, length, drop}
+use Rattle.std.specs.Prelude.{◌≡◌, ◌≤◌, ℕ, List, [], ◌∷◌, length, drop, Some, slice_get}
 use Rattle.nona_tree.specs.declared.outcomes.Outcome.{Outcome}
 use Rattle.nona_tree.specs.declared.trees.Stmt.{Stmt}
 use Rattle.nona_tree.specs.Memory.{Memory}
@@ -15,6 +15,10 @@ AreUnits [] [] = Unit {0}
 AreUnits (code ∷ codes) (s ∷ rest) = StandsFor code.instrs s × AreUnits codes rest
 AreUnits [] (s ∷ rest) = ⊥
 AreUnits (code ∷ codes) [] = ⊥
+
+-- none of these codes takes more room on a stack than this
+abbrev pub HaveRoom : List SoundView → ℕ → Type 0
+HaveRoom codes room = (k : ℕ) (code : SoundView) → slice_get codes k ≡ Some code → code.deepest ≤ room
 
 -- the first of these statements, where there is one, has its scalars and arrays in a store
 abbrev pub IsFirstScoped : List Stmt → Memory → Type 0

@@ -1,6 +1,6 @@
-ghost use Rattle.std.specs.Prelude.{◌≡◌, ◌<◌, ◌≤◌, length, All, IfOk};
+ghost use Rattle.std.specs.Prelude.{◌≡◌, ◌<◌, ℕ, length, IfOk, Some, slice_get};
 ghost use Rattle.nona_code.specs.SoundView.{SoundView};
-ghost use Rattle.nona_units.specs.Units.{AreUnits, IsUnitAt};
+ghost use Rattle.nona_units.specs.Units.{AreUnits, HaveRoom, IsUnitAt};
 
 use nona_code::{Frame, Sound};
 use nona_tree::Stmt;
@@ -13,7 +13,7 @@ use std::snapshot::Snapshot;
 /// room the code of each takes at most on the stack of a frame.
 #[derive(Drop)]
 pub struct Units {
-    codes: Vec<Sound>,
+    compiled: Vec<Sound>,
     room: u32,
     body: Snapshot<Items<Stmt>>,
 }
@@ -36,7 +36,7 @@ impl Model for Units {
 
 /// The most room that one of these codes takes on a stack.
 fn most_room(codes: &[Sound]) -> u32
-    ensures { All (λ (code : SoundView). code.deepest ≤ result) codes.now }
+    ensures { HaveRoom codes.now result }
 {
     let mut room = 0;
     for code in codes {
@@ -54,17 +54,25 @@ impl Units {
     {
         let room = most_room(&codes);
         Units {
-            codes,
+            compiled: codes,
             room,
             body: Snapshot::of(body),
         }
+    }
+
+    /// The codes, in order.
+    pub(crate) fn codes(&self) -> &[Sound]
+        ensures count { length result.now ≡ length self.now.body }
+        ensures units { (at : ℕ) (code : SoundView) → slice_get result.now at ≡ Some code → IsUnitAt code self.now at }
+    {
+        self.compiled.as_slice()
     }
 
     /// How many statements there are.
     pub fn count(&self) -> usize
         ensures { result ≡ length self.now.body }
     {
-        self.codes.len()
+        self.codes().len()
     }
 
     /// A frame with room for the code of each. It is refused for want of memory alone.
@@ -79,6 +87,6 @@ impl Units {
         requires { at < length self.now.body }
         ensures { IsUnitAt result.now self.now at }
     {
-        &self.codes[at]
+        &self.codes()[at]
     }
 }

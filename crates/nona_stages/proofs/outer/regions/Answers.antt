@@ -1,10 +1,8 @@
-use Rattle.std.proofs.Common.{◌≡◌, ◌+◌, ◌<◌, ◌^◌, ℕ, List, length, sym, ap, subst, ◌∙◌, All}
+use Rattle.std.proofs.Common.{◌+◌, ◌<◌, ◌^◌, ℕ, List, length, sym, ap, subst, ◌∙◌}
 use Rattle.nona_tree.specs.Entries.{may_reshape}
 use Rattle.nona_stages.specs.declared.outer.Mark.{Mark}
-use Rattle.nona_stages.specs.declared.seen.Region.{Region}
-use Rattle.nona_stages.specs.declared.seen.Seen.{Seen}
-use Rattle.nona_stages.specs.Seen.{seen_from, regions_of, region_places, seq_plan}
-use Rattle.nona_stages.proofs.Gathered.{gathered, seen_places, seen_count, seen_plans}
+use Rattle.nona_stages.specs.Seen.{seen_from, regions_of}
+use Rattle.nona_stages.proofs.Gathered.{gathered, seen_count}
 use Rattle.nona_stages.proofs.outer.regions.Goals as goal
 
 pub seen_by-requires : goal.seen_by-requires
@@ -13,11 +11,3 @@ seen_by-requires c =
     subst (λ (marks : List Mark). length (regions_of (seen_from 1 marks)) + 1 < 2 ^ 32) (sym (gathered _ _ _ _ p.body c.new-marks.ensures.items c.in_ok-add_all.ensures c.deref.ensures.value (c.as_slice.ensures ∙ ap (λ q. q.body) c.program.ensures.program)))
     (subst (λ (k : ℕ). k + 1 < 2 ^ 32) (sym (seen_count p.body)) (c.regions_keep.ensures.few may_reshape p c.program.ensures.checked.0))
 
-pub returns-clause-places : goal.returns-clause-places
-returns-clause-places c =
-    let p = c.args.program.now in
-    ap region_places (c.in_ok-seen.ensures ∙ ap (seen_from 1) (gathered _ _ _ _ p.body c.new-marks.ensures.items c.in_ok-add_all.ensures c.deref.ensures.value (c.as_slice.ensures ∙ ap (λ q. q.body) c.program.ensures.program))) ∙ seen_places p.body
-
-pub returns-clause-plans : goal.returns-clause-plans
-returns-clause-plans c =
-    subst (λ (all : List Seen). All (λ (r : Region). r.plan ≡ seq_plan) (regions_of all)) (sym c.in_ok-seen.ensures) (seen_plans 1 c.deref.result.now)
