@@ -1,5 +1,5 @@
 -- What main code does up to its regions and its end: combinators beside those of courses.
-use Rattle.std.proofs.Common.{◌≡◌, ◌≢◌, ⊥, ℕ, zero, suc, ◌+◌, ◌-◌, ◌≤◌, Bool, true, false, if◌then◌else◌, ℤ, List, [], ◌∷◌, ◌++◌, length, Some, refl, sym, ap, ◌∙◌, subst, arith, append_assoc}
+use Rattle.std.proofs.Common.{◌≡◌, ◌≢◌, ℕ, zero, suc, ◌+◌, ◌-◌, ◌≤◌, Bool, true, false, if◌then◌else◌, ℤ, List, [], ◌∷◌, ◌++◌, length, Some, refl, sym, ap, ◌∙◌, subst, arith, append_assoc}
 use Rattle.std.specs.Prelude.{slice_get, Result, Ok, Err, Option}
 use Rattle.nona_tree.specs.declared.trees.Loop.{Loop}
 use Rattle.nona_tree.specs.declared.trees.Stmt.{For}
@@ -10,9 +10,9 @@ use Rattle.nona_tree.specs.Memory.{Memory, cut_to}
 use Rattle.nona_tree.specs.Value.{value_of}
 use Rattle.nona_tree.specs.Run.{Ran, done, trapped, with_value, then_from, then_do, run}
 use Rattle.nona_tree.specs.Scope.{IsScoped}
-use Rattle.nona_tree.specs.Beside.{on_ok, on_end, on_done}
+use Rattle.nona_tree.specs.Beside.{on_ok, on_end}
 use Rattle.nona_tree.specs.Entries.{Opened}
-use Rattle.nona_tree.specs.Deeds.{Deed}
+use Rattle.nona_tree.specs.Deeds.{Deed, value_deeds}
 use Rattle.nona_main.specs.Course as course
 use Rattle.nona_main.specs.Course.{Course, opens}
 use Rattle.nona_main.specs.Frame.{opened}
@@ -25,7 +25,8 @@ use Rattle.nona_code.proofs.Placed.{Stands}
 use Rattle.nona_code.proofs.Traces.{ComesIn, EndsIn, Comes, most, one, one_few, wider_end_in, Gives}
 use Rattle.nona_gen.specs.Code.{leave_code}
 use Rattle.nona_gen.proofs.Values.{at}
-use Rattle.nona_gen.proofs.Lands.{Kept, kept_refl, kept_on, kept_less, Around, RunsBy, RunsIn, to_place, deeper, left, cut_twice}
+use Rattle.nona_gen.proofs.Claims.{Claims}
+use Rattle.nona_gen.proofs.Lands.{Kept, kept_refl, kept_on, kept_less, Around, RunsBy, RunsIn, to_place, left, cut_twice}
 
 -- a course, with entries before
 abbrev pub entered_first : List Opened → Course → Course
@@ -98,9 +99,6 @@ module _ (code : List Instr) (n : ℕ) where
   pub stops_wider : (a b : ℕ) (s : State) (x : Around) (es : List Opened) (r : Ran) → a ≤ b → StopsIn a s x es r → StopsIn b s x es r
   stops_wider a b s x es r le h more later fits go = left_wider (a + more) (b + more) s _ (omega (arith, le)) (h more later (omega (arith, le, fits)) go)
 
-  pub stops_as : (b : ℕ) (s : State) (x : Around) (es fs : List Opened) (r q : Ran) → es ≡ fs → r ≡ q → StopsIn b s x es r → StopsIn b s x fs q
-  stops_as b s x es fs r q e g h = subst (λ l. StopsIn b s x l q) e (subst (λ y. StopsIn b s x es y) g h)
-
   runs_by : (b : ℕ) (s : State) (x : Around) (ds : List Deed) (m : Memory) (e : Outcome) → RunsBy code n b s x ds m e → StopsBy b s x [] m e
   runs_by b s x ds m outcome.Done r more later fits go =
       left_on b more s (at x.to x.stack r.hidden r.counters m) ds (later m) r.comes (go refl r.hidden r.counters r.kept)
@@ -145,41 +143,12 @@ module _ (code : List Instr) (n : ℕ) where
       left_as _ s _ _ ((λ i. entered_first es (course.ended (sym same i) (outcome.OutOfTurns t))) ∙ ap (λ (l : List Opened). let r : Course = record { ran = c.ran; entries = l } in r) (sym (append_assoc es [] [])))
       (left_wider (a + more) (a + b + more) s _ (omega arith) (first more later (omega (arith, fits)) (λ yes h k kept. absurd (not_done_turns t yes))))
 
-  -- one run after another
-  pub stops_then : (a b : ℕ) (s : State) (x : Around) (q : ℕ) (es : List Opened) (r : Ran) (gs : Memory → List Opened) (go : Memory → Ran)
-      → StopsIn a s (to_place q x) es r
-      → ((h : List ℤ) (k : List ℕ) → Kept x.depth s (at q x.stack h k r.store) → r.end ≡ outcome.Done → StopsIn b (at q x.stack h k r.store) x (gs r.store) (go r.store))
-      → StopsIn (a + b) s x (es ++ on_done r gs) (then_do r go)
-  stops_then a b s x q es r gs go first next = then_by a b x.depth s x q r.store es r.store r.end gs go (omega arith) refl first next
-
-  -- a turn, and then the turns that are left
-  pub stops_turn : (a b : ℕ) (s : State) (x : Around) (q : ℕ) (es : List Opened) (r : Ran) (gs : Memory → List Opened) (go : Memory → Ran)
-      → StopsIn a s (deeper q x) es r
-      → ((h : List ℤ) (k : List ℕ) → Kept (x.depth + 1) s (at q x.stack h k r.store) → r.end ≡ outcome.Done → StopsIn b (at q x.stack h k r.store) x (gs r.store) (go r.store))
-      → StopsIn (a + b) s x (es ++ on_done r gs) (then_do r go)
-  stops_turn a b s x q es r gs go first next = then_by a b (x.depth + 1) s x q r.store es r.store r.end gs go (omega arith) refl first next
-
-  -- a turn whose scalars the code has not left yet, and then the turns that are left
-  pub stops_cut : (a b : ℕ) (s : State) (x : Around) (q L : ℕ) (es : List Opened) (r : Ran) (gs : Memory → List Opened) (go : Memory → Ran)
-      → StopsIn a s (deeper q x) es r → x.keep ≤ L
-      → ((h : List ℤ) (k : List ℕ) → Kept (x.depth + 1) s (at q x.stack h k r.store) → r.end ≡ outcome.Done → StopsIn b (at q x.stack h k r.store) x (gs (cut_to L r.store)) (go (cut_to L r.store)))
-      → StopsIn (a + b) s x (es ++ on_end (cut_to L r.store) r.end gs) (then_from (cut_to L r.store) r.end go)
-  stops_cut a b s x q L es r gs go first le next = then_by a b (x.depth + 1) s x q (cut_to L r.store) es r.store r.end gs go (omega arith) (cut_twice x.keep L r.store le) first next
-
-  pub stops_if : (b : ℕ) (s : State) (x : Around) (c : Bool) (es fs : List Opened) (r q : Ran) → (c ≡ true → StopsIn b s x es r) → (c ≡ false → StopsIn b s x fs q) → StopsIn b s x (if c then es else fs) (if c then r else q)
-  stops_if b s x true es fs r q h g = h refl
-  stops_if b s x false es fs r q h g = g refl
-
-  -- two ways to the same regions
-  pub stops_either : (b : ℕ) (s : State) (x : Around) (c : Bool) (es : List Opened) (r q : Ran) → (c ≡ true → StopsIn b s x es r) → (c ≡ false → StopsIn b s x es q) → StopsIn b s x es (if c then r else q)
-  stops_either b s x true es r q h g = h refl
-  stops_either b s x false es r q h g = g refl
-
-  -- one of two places
-  pub stops_branch : (b u v : ℕ) (st h : List ℤ) (k : List ℕ) (m : Memory) (x : Around) (c : Bool) (es : List Opened) (r : Ran)
-      → (c ≡ true → StopsIn b (at u st h k m) x es r) → (c ≡ false → StopsIn b (at v st h k m) x es r) → StopsIn b (at (if c then u else v) st h k m) x es r
-  stops_branch b u v st h k m x true es r f g = f refl
-  stops_branch b u v st h k m x false es r f g = g refl
+  -- a run to a place behind which w is taken for its store, and another run from there
+  pub stops_next : (a b d : ℕ) (s : State) (x : Around) (q : ℕ) (w : Memory) (es : List Opened) (r : Ran) (gs : Memory → List Opened) (go : Memory → Ran)
+      → x.depth ≤ d → cut_to x.keep w ≡ cut_to x.keep r.store → StopsIn a s (record x { depth = d; to = q }) es r
+      → ((h : List ℤ) (k : List ℕ) → Kept d s (at q x.stack h k r.store) → r.end ≡ outcome.Done → StopsIn b (at q x.stack h k r.store) x (gs w) (go w))
+      → StopsIn (a + b) s x (es ++ on_end w r.end gs) (then_from w r.end go)
+  stops_next a b d s x q w es r gs go le same first next = then_by a b d s x q w es r.store r.end gs go le same first next
 
   leave_by : (a : ℕ) (s : State) (x : Around) (q L lets : ℕ) (es : List Opened) (m : Memory) (e : Outcome)
       → StopsBy a s (to_place q x) es m e → (e ≡ outcome.Done → length m.scalars ≡ L + lets) → x.keep ≤ L → q + length (leave_code lets) ≡ x.to → Stands code q (leave_code lets)
@@ -194,10 +163,10 @@ module _ (code : List Instr) (n : ℕ) where
       let goes_on : Comes code n (length (leave_code lets)) t [] u = subst (λ p. Comes code n (length (leave_code lets)) t [] (at p x.stack h k (cut_to L m))) to (left code n q L lets x.stack h k m (long refl) has) in
       left_on b more t u [] _ goes_on (go refl h k (kept_on x.depth s t u kept (kept_refl x.depth t u refl refl)))))
   leave_by a s x q L lets es m (outcome.Trap t) first long le to has more later fits go =
-      subst (λ k. LeftIn _ s (entered_first es (course.ended k (outcome.Trap t)))) (sym (cut_twice x.keep L m le))
+      subst (λ k. LeftIn (a + most n (length (leave_code lets)) + more) s (entered_first es (course.ended k (outcome.Trap t)))) (sym (cut_twice x.keep L m le))
       (left_wider (a + more) (a + most n (length (leave_code lets)) + more) s _ (omega arith) (first more later (omega (arith, fits)) (λ yes h k kept. absurd (not_done_trap t yes))))
   leave_by a s x q L lets es m (outcome.OutOfTurns t) first long le to has more later fits go =
-      subst (λ k. LeftIn _ s (entered_first es (course.ended k (outcome.OutOfTurns t)))) (sym (cut_twice x.keep L m le))
+      subst (λ k. LeftIn (a + most n (length (leave_code lets)) + more) s (entered_first es (course.ended k (outcome.OutOfTurns t)))) (sym (cut_twice x.keep L m le))
       (left_wider (a + more) (a + most n (length (leave_code lets)) + more) s _ (omega arith) (first more later (omega (arith, fits)) (λ yes h k kept. absurd (not_done_turns t yes))))
 
   -- a block, which leaves its scalars
@@ -264,3 +233,17 @@ module _ (code : List Instr) (n : ℕ) where
       (kept_refl depth s (at (q + 1) st h k r.store) refl refl)
       (omega (arith, fits, long)) (omega (arith, keeps, long))
       (λ c rest u halts. main.stops u t number a b l c halts scoped low high rest)
+
+  -- code that stops at regions, to which statements come
+  abbrev pub stops_claims : Claims code n Opened
+  stops_claims = record {
+    claim = StopsIn;
+    noted = λ e m. [];
+    plain = λ b s x r h. stops_runs b s x [] r h;
+    wider = stops_wider;
+    on = λ a b s t x es r c kept h. stops_on a b s t x [] es r c kept h;
+    value = λ a b s x e m go es next g kept h. stops_value a b s x (value_of e m) m go (value_deeds e m) es next g kept h;
+    after = stops_next;
+    leave = stops_leave;
+    jump = stops_jump;
+  }
