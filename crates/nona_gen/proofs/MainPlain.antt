@@ -49,7 +49,7 @@ mutual
 -- by a test that chooses none
 
 mutual
-  none_in : (s : Stmt) → count_in (λ l. false) s ≡ 0
+  pub none_in : (s : Stmt) → count_in (λ l. false) s ≡ 0
   none_in (If' test q then_part r else_part) =
       let no : Loop → Bool = λ l. false in
       omega (arith, length-append (regions_row no then_part) (regions_row no else_part), none_row then_part, none_row else_part)
