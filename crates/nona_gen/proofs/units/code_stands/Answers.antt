@@ -1,4 +1,3 @@
-use Rattle.nona_gen.proofs.MainStands.{program_stands}
 use Rattle.nona_gen.proofs.Standing.{unit_stands}
 use Rattle.nona_gen.proofs.Keeping.{unit_sound}
 use Rattle.nona_gen.proofs.units.code_stands.Goals as goal
