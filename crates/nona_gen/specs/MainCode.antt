@@ -16,7 +16,9 @@ abbrev mutual
   -- in its text has this number
   pub main_code : (Loop → Bool) → ℕ → Stmt → ℕ → ℕ → List Instr
   main_code chosen first (If' test q then_part r else_part) depth p =
-      if_code p (expr_code test) (block_code (main_row chosen first then_part depth) (lets_row then_part)) (block_code (main_row chosen (first + count_row chosen then_part) else_part depth) (lets_row else_part))
+      let one = block_code (main_row chosen first then_part depth) (lets_row then_part) in
+      let two = block_code (main_row chosen (first + count_row chosen then_part) else_part depth) (lets_row else_part) in
+      if_code p (expr_code test) one two
   main_code chosen first (While' test q body at) depth p =
       while_code p depth at (flip_code test) (block_code (main_row chosen first body (depth + 1)) (lets_row body))
   main_code chosen first (For' x low high q body seq at) depth p =
