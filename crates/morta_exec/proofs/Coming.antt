@@ -105,7 +105,7 @@ stopped_main promise left later b now m r log new stop fault grows prints w at b
     }
 
 -- the lines of the first numbers are a front of all lines
-front_put : (sent : Sent) (xs ys : List ℤ) → Extends xs ys → HasPut sent xs → AppendsFront sent.before sent.after (number_lines ys)
+pub front_put : (sent : Sent) (xs ys : List ℤ) → Extends xs ys → HasPut sent xs → AppendsFront sent.before sent.after (number_lines ys)
 front_put sent xs ys h put = (number_lines xs, number_lines h.0, ap number_lines h.1 ∙ flat_map-append number_line xs h.0, put.put)
 
 -- memory ran out in the main statements

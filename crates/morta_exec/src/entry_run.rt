@@ -59,7 +59,7 @@ fn whole_end(image: &Image, entry: &Entry) -> Outcome
 }
 
 /// How the loop of an entry has ended with an interval, or `None` where the entry goes on.
-fn loop_end(image: &Image, entry: &Entry, interval: &Interval) -> Option<Outcome>
+pub fn loop_end(image: &Image, entry: &Entry, interval: &Interval) -> Option<Outcome>
     requires entered { IsEntered entry.now }
     requires region { IsIn entry.now image.now }
     requires done { IsDone entry.now interval.now.ran interval.now.from (limit_of entry.now interval.now.from interval.now.asked.until) interval.now.done }

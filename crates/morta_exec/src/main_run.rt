@@ -47,7 +47,7 @@ fn next_number(log: &Log) -> u32
 }
 
 /// The entry that opens so, and what its first interval begins with.
-fn arrive<M, K>(start: &Start<'_, M, K>, opening: Opening, store: Store) -> Arrival
+pub fn arrive<M, K>(start: &Start<'_, M, K>, opening: Opening, store: Store) -> Arrival
     requires some_turns { 1 ≤ start.now.turns }
     requires few_turns { start.now.turns ≤ 10 ^ 12 }
     requires first { 1 ≤ opening.region }
