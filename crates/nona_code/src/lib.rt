@@ -25,6 +25,3 @@ pub use instr::Instr;
 pub use limits::{FIRST_HIDDEN, INSTRUCTIONS, PLACES};
 pub use sound::Sound;
 pub use verifying::verify;
-
-#[cfg(test)]
-mod tests;

@@ -1,6 +1,6 @@
-use crate::instr::Instr;
-use crate::verifying::verify;
-use crate::{Frame, Sound};
+//! The stack rule, on code by hand, and the room of a frame.
+
+use nona_code::{Frame, Instr, Sound, verify};
 use nona_tree::Op;
 use std::alloc::{AllocError, Global};
 

@@ -1,8 +1,8 @@
 //! Lines that no program writes yet, or none in one case, with texts by hand; and a put that fails.
 
-use crate::{put_numbers, send_log, send_outcome};
 use fate_io::{MemorySink, SendFault};
 use morta_task::{Ask, Config, Cut, Interval, Log, Ran, Scheme, Work};
+use morta_text::{put_numbers, send_log, send_outcome};
 use nona_tree::{Outcome, Trap, TrapKind};
 use std::alloc::{AllocError, Global};
 use std::test::Fail;
