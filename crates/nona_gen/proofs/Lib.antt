@@ -5,6 +5,7 @@ pub mod MainPlain
 pub mod Fewer
 pub mod Fits
 pub mod Gathering
+pub mod Imaging
 pub mod RegionsCode
 pub mod Emitting
 pub mod Patching

@@ -7,7 +7,7 @@
 
 mod emit;
 mod gather;
-
+mod image;
 mod jumps;
 mod laws;
 mod main_code;
@@ -15,6 +15,7 @@ mod statements;
 mod units;
 
 pub use emit::emit_expr;
+pub use image::generate;
 
 pub use laws::main_code_stands;
 pub use statements::emit_stmt;
