@@ -1,7 +1,7 @@
 -- A run in one thread, from one region to the next.
-use Rattle.std.proofs.Common.{◌≡◌, ◌≢◌, ℕ, ◌+◌, ◌-◌, ◌<◌, ◌≤◌, ℤ, pos, ◌+ℤ◌, List, [], ◌∷◌, ◌++◌, length, refl, sym, ◌∙◌, ap, subst, append_assoc, arith, Some, slice_get}
-use Rattle.std.specs.Prelude.{All, Ok}
-use Rattle.std.proofs.lemmas.Int.{ints}
+use Rattle.std.proofs.Common.{◌≡◌, ◌≢◌, ℕ, ◌+◌, ◌-◌, ◌<◌, ◌≤◌, ℤ, pos, ◌+ℤ◌, List, [], ◌∷◌, ◌++◌, length, refl, sym, ◌∙◌, ap, subst, subst₂, append_assoc, arith, Some, slice_get}
+use Rattle.std.specs.Prelude.{All, Ok, map}
+use Rattle.std.proofs.lemmas.List.{length-map}
 use Rattle.std.proofs.lemmas.List.Elements.{All-tail}
 use Rattle.std.proofs.lemmas.List.Concat.{flat_map-append}
 use Rattle.std.specs.declared.option.Option.{Option}
@@ -12,27 +12,23 @@ use Rattle.fate_io.specs.declared.sending.SendFault.TheVariants as sending
 use Rattle.nona_tree.specs.declared.outcomes.Outcome.{Outcome}
 use Rattle.nona_tree.specs.declared.outcomes.Outcome.TheVariants as outcome
 use Rattle.nona_tree.specs.declared.trees.Loop.{Loop}
-use Rattle.nona_tree.specs.declared.trees.Stmt.{For}
+use Rattle.nona_tree.specs.declared.trees.Stmt.{Stmt, For}
 use Rattle.nona_tree.specs.Memory.{Memory, Extends}
 use Rattle.nona_tree.specs.Value.{value_of}
-use Rattle.nona_tree.specs.Run.{Ran, run, done, Reaches}
+use Rattle.nona_tree.specs.Run.{Ran, run, run_all, turn, first_turns, done, Reaches}
 use Rattle.nona_tree.specs.Numbers.{IsI64}
-use Rattle.nona_tree.specs.Scope.{IsScoped}
+use Rattle.nona_tree.specs.Scope.{IsScoped, AreScoped}
+use Rattle.nona_tree.proofs.Equations.{scoped-For}
 use Rattle.nona_tree.specs.Entries.{Opened, regions_all, count_all, IsEntryOf}
 use Rattle.nona_main.specs.Course.{Course, ended}
 use Rattle.nona_main.specs.declared.frame.Stop.{Stop}
 use Rattle.nona_main.specs.declared.frame.Stop.TheVariants as stops
 use Rattle.nona_main.specs.Frame.{IsAtRegion, Stops, CanGoOn, CanLeave}
 use Rattle.morta_task.specs.declared.opening.Opening.{Opening}
-use Rattle.morta_task.specs.declared.schemes.Config.{Config}
-use Rattle.morta_task.specs.declared.intervals.Cut.{Cut}
-use Rattle.morta_task.specs.declared.intervals.Cut.TheVariants.{Limit, Paused, Trap, Turns}
 use Rattle.morta_task.specs.RegionView.{RegionView}
 use Rattle.morta_task.specs.ImageView.{is_region_of}
 use Rattle.morta_task.specs.Entries.{EntryView, entered, IsEntered, last, before, state_after, numbered_from}
-use Rattle.morta_task.specs.Running.{IsIn, IsHandoff, CutSays}
-use Rattle.morta_task.specs.declared.intervals.Handoff.{Handoff}
-use Rattle.morta_task.specs.Legal.{GoesOnBehind}
+use Rattle.morta_task.specs.Running.{IsIn}
 use Rattle.morta_text.specs.Texts.{number_line, number_lines}
 use Rattle.morta_exec.specs.Began.{Began, whole_run}
 use Rattle.morta_exec.specs.EntryRun.{whole_loop, LoopsOfEntries}
@@ -40,25 +36,30 @@ use Rattle.morta_exec.specs.MainRun.{IsOpened}
 use Rattle.morta_exec.specs.Puts.{HasPut}
 use Rattle.morta_exec.specs.Through.{IsThrough, IsBefore, GoesThrough}
 use Rattle.morta_exec.proofs.Growing.{some_same, extends_same, extends_chain}
-use Rattle.morta_exec.proofs.Loops.{before_low}
 use Rattle.morta_exec.proofs.Coming.{Grows, Prints, front_put}
 use Rattle.morta_exec.proofs.Onward.{loop_run, region_there}
 
--- an interval that may take all iterations of an entry and isn't paused ends its loop
-pub cut_short : (e : EntryView) (c : Config) (a b limit : ℕ) (cut : Cut) → a ≡ 0 → limit ≡ before e (last e) → b < before e (last e) → cut ≢ Paused → GoesOnBehind cut → CutSays e c a limit b cut → ⊥
-cut_short e c a b limit Limit low all short other on says = omega (arith, low, all, short, says.0)
-cut_short e c a b limit Paused low all short other on says = other refl
-cut_short e c a b limit (Trap t) low all short other on says = on
-cut_short e c a b limit (Turns at) low all short other on says = on
+-- the state before the first iteration
+pub first_state : (e : EntryView) (m : Memory) → m ≡ e.store → state_after e 0 ≡ done m
+first_state e m is = ap done (sym is)
 
--- the first iteration of an entry comes next in its store
-pub first_handoff : (e : EntryView) (h : Handoff) → h.next ≡ e.low → h.store ≡ e.store → IsHandoff e h
-first_handoff e h next store =
-    let none : before e h.next ≡ 0 = ap (before e) next ∙ before_low e in
-    let here : e.low +ℤ pos 0 ≡ e.low = omega (arith, ints) in record {
-      within = (next ∙ sym here ∙ ap (λ k. e.low +ℤ pos k) (sym none), omega (arith, none));
-      state = ap (state_after e) none ∙ ap done (sym store);
-    }
+-- what the body names is there in each iteration
+pub scoped_at : ((ss : List Stmt) (n : ℕ) (low : ℤ) (k : ℕ) (m : Memory) → length (first_turns (turn (run_all ss n)) low k m).store.scalars ≡ length m.scalars)
+    → ((ss : List Stmt) (n : ℕ) (low : ℤ) (k : ℕ) (m : Memory) → map length (first_turns (turn (run_all ss n)) low k m).store.arrays ≡ map length m.arrays)
+    → (e : EntryView) (k : ℕ) (m : Memory) → IsEntered e → state_after e k ≡ done m → AreScoped e.looped.body (length m.scalars + 1) (length m.arrays)
+scoped_at scalars_law lengths_law e k m entered reached =
+    let parts = subst (λ P. P) (scoped-For e.looped (length e.store.scalars) (length e.store.arrays)) entered.scoped in
+    let scalars : length m.scalars ≡ length e.store.scalars =
+    sym (ap (λ (r : Ran). length r.store.scalars) reached) ∙ scalars_law e.looped.body e.turns e.low k e.store in
+    let arrays : length m.arrays ≡ length e.store.arrays =
+    sym (length-map m.arrays length) ∙ sym (ap (λ (r : Ran). length (map length r.store.arrays)) reached) ∙ ap length (lengths_law e.looped.body e.turns e.low k e.store) ∙ length-map e.store.arrays length in
+    subst₂ (λ d a. AreScoped e.looped.body (d + 1) a) (sym scalars) (sym arrays) parts.3
+
+-- an iteration that ended otherwise than done ends the loop
+pub ends_at : LoopsOfEntries → (e : EntryView) (k : ℕ) (m : Memory) (end : Outcome) → IsEntered e → k < before e (last e) → state_after e (k + 1) ≡ record { store = m; end = end }
+    → end ≢ outcome.Done → Reaches (whole_loop e) m end
+ends_at loops e k m end is below reached other =
+    loops.over e (k + 1) is (omega (arith, below)) (λ h. other (sym (ap (λ (r : Ran). r.end) reached) ∙ h)) ∙ reached
 
 -- the lines of more numbers have what is a front of fewer
 pub broken_more : (sent : Sent) (xs ys : List ℤ) (fault : SendFault) → Extends xs ys → BreaksOff sent (number_lines xs) fault → BreaksOff sent (number_lines ys) fault

@@ -18,7 +18,6 @@ use crate::main_run::drive_frame;
 use crate::one_thread::pass_all;
 use crate::start::{Beginning, Start};
 use fate_io::{SendFault, Sink};
-use morta_plain::OneThread;
 use morta_task::{Asker, Image, Log, Runner};
 use nona_code::CodeFrame;
 use nona_store::Ended;
@@ -112,7 +111,7 @@ pub fn run_through<K: Sink>(
         image,
         turns,
         store: Snapshot::of(&store),
-        morta: Snapshot::of(&OneThread),
+        morta: Snapshot::of(&()),
         out: Snapshot::of(out),
     };
     let Ok(mut frame) = frame_of(alloc, image) else {

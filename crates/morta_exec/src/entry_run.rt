@@ -43,7 +43,7 @@ fn span(entry: &Entry) -> u64
 }
 
 /// How the loop of an entry ends whose last turn is done: it may be out of turns then.
-fn whole_end(image: &Image, entry: &Entry) -> Outcome
+pub fn whole_end(image: &Image, entry: &Entry) -> Outcome
     requires entered { IsEntered entry.now }
     requires region { IsIn entry.now image.now }
     ensures { (m : Memory) → state_after entry.now (before entry.now (last entry.now)) ≡ done m → Reaches (whole_loop entry.now) m result }
@@ -59,7 +59,7 @@ fn whole_end(image: &Image, entry: &Entry) -> Outcome
 }
 
 /// How the loop of an entry has ended with an interval, or `None` where the entry goes on.
-pub fn loop_end(image: &Image, entry: &Entry, interval: &Interval) -> Option<Outcome>
+fn loop_end(image: &Image, entry: &Entry, interval: &Interval) -> Option<Outcome>
     requires entered { IsEntered entry.now }
     requires region { IsIn entry.now image.now }
     requires done { IsDone entry.now interval.now.ran interval.now.from (limit_of entry.now interval.now.from interval.now.asked.until) interval.now.done }

@@ -1,9 +1,9 @@
 //! A run in one thread, from one region to the next, without a log.
-ghost use Rattle.std.specs.Prelude.{◌≡◌, ◌-◌, ◌≤◌, ◌^◌, length, IfOk, IfErr, OnOk, None};
+ghost use Rattle.std.specs.Prelude.{◌≡◌, ◌-◌, ◌≤◌, ◌^◌, pos, ◌+ℤ◌, length, IfOk, IfErr};
 ghost use Rattle.fate_io.specs.Sending.{sent_since, BreaksOff};
 ghost use Rattle.nona_tree.specs.Run.{Reaches};
-ghost use Rattle.morta_task.specs.Entries.{IsEntered, last};
-ghost use Rattle.morta_task.specs.Running.{IsIn, IsHandoff};
+ghost use Rattle.morta_task.specs.Entries.{IsEntered, before, last};
+ghost use Rattle.morta_task.specs.Running.{IsIn};
 ghost use Rattle.morta_text.specs.Texts.{number_lines};
 ghost use Rattle.morta_exec.specs.Began.{began, all_entries, whole_run};
 ghost use Rattle.morta_exec.specs.EntryRun.{whole_loop};
@@ -11,51 +11,56 @@ ghost use Rattle.morta_exec.specs.MainRun.{BeginsEntry};
 ghost use Rattle.morta_exec.specs.Puts.{HasPut};
 ghost use Rattle.morta_exec.specs.Through.{IsThrough, IsBefore, GoesThrough};
 
-use crate::entry_run::{loop_end, loops_of_entries};
+use crate::entry_run::{loops_of_entries, whole_end};
 use crate::main_run::arrive;
 use crate::shown::show;
 use crate::start::{Arrival, Start};
 use fate_io::{SendFault, Sink};
-use morta_plain::OneThread;
-use morta_task::{Ask, Config, Entry, Handoff, Image, Interval, Opening, Runner};
+use morta_task::{Entry, Image, Opening};
 use named::Named;
 use nona_main::{MainFrame, Stop};
-use nona_num::gap;
+use nona_num::{gap, offset};
 use nona_store::{Ended, Store};
-use nona_tree::{Outcome, printed_grows};
-use std::alloc::AllocError;
+use nona_tree::{Outcome, after_next, lengths_stay, printed_grows, scalars_stay};
+use nona_units::turn_units;
+use std::alloc::{AllocError, Global};
 
-/// Runs the whole loop of an entry, in one interval.
+/// The index of the iteration with this number, from 0.
+fn index_of(entry: &Entry, k: u64) -> i64
+    requires { k ≤ before entry.now (last entry.now) }
+    ensures { result ≡ entry.now.low +ℤ pos k }
+{
+    let _last = entry.last();
+    offset(entry.low(), k)
+}
+
+/// Runs the whole loop of an entry, one iteration after another.
 fn run_loop(
+    alloc: Global,
     image: &Image,
     entry: &Entry,
-    handoff: Handoff,
+    store: Store,
 ) -> Result<(Store, Outcome), AllocError>
     requires entered { IsEntered entry.now }
     requires region { IsIn entry.now image.now }
-    requires begins { handoff.next ≡ entry.now.low }
-    requires store { handoff.store ≡ entry.now.store }
+    requires store { store ≡ entry.now.store }
     ensures { IfOk result (λ r. Reaches (whole_loop entry.now) r.0 r.1) }
 {
+    after_next();
+    scalars_stay();
+    lengths_stay();
     loops_of_entries();
-    let from = handoff.next;
-    let limit = gap(from, entry.last());
-    let mut thread = OneThread;
-    let (handoff, done) = thread.interval(image, entry, handoff, Config::SEQ, limit)?;
-    let interval = Interval {
-        entry: entry.number(),
-        asked: Ask {
-            config: Config::SEQ,
-            until: None,
-        },
-        ran: Config::SEQ,
-        from,
-        done,
-    };
-    match loop_end(image, entry, &interval) {
-        Some(end) => Ok((handoff.store, end)),
-        None => unreachable!(),
+    let units = image.region(entry.region()).units();
+    let turns = entry.turns();
+    let mut frame = units.frame(alloc)?;
+    let mut store = store;
+    'iterations: for k in 0..gap(entry.low(), entry.last()) {
+        match turn_units(units, index_of(entry, k), &mut frame, turns, &mut store)? {
+            Outcome::Done => {}
+            end => return Ok((store, end)),
+        }
     }
+    Ok((store, whole_end(image, entry)))
 }
 
 /// How many regions a run comes to, for contracts alone.
@@ -75,7 +80,7 @@ fn one_less(count: &Named<u64>) -> Named<u64>
 /// Runs the loop of the region that the main statements have come to, and then puts the lines of what it printed. Where it ends
 /// otherwise than done, the blocks around it are left, and the run is at its end.
 fn pass_region<F: MainFrame, K: Sink>(
-    start: &Start<'_, OneThread, K>,
+    start: &Start<'_, (), K>,
     frame: &mut F,
     arrival: Arrival,
     count: &Named<u64>,
@@ -93,8 +98,9 @@ fn pass_region<F: MainFrame, K: Sink>(
     printed_grows();
     loops_of_entries();
     let Arrival { entry, pending } = arrival;
-    let shown = pending.handoff.store.printed().len();
-    let (mut store, end) = match run_loop(start.image, &entry, pending.handoff) {
+    let store = pending.handoff.store;
+    let shown = store.printed().len();
+    let (mut store, end) = match run_loop(start.alloc, start.image, &entry, store) {
         Ok(ran) => ran,
         Err(_) => return Err(SendFault::NoMemory),
     };
@@ -111,7 +117,7 @@ fn pass_region<F: MainFrame, K: Sink>(
 /// From one region to the next, or to the end of the run. What the main statements print is put first, and then what the loop
 /// of the region prints.
 fn pass<F: MainFrame, K: Sink>(
-    start: &Start<'_, OneThread, K>,
+    start: &Start<'_, (), K>,
     frame: &mut F,
     store: Store,
     count: &Named<u64>,
@@ -152,7 +158,7 @@ fn pass<F: MainFrame, K: Sink>(
 
 /// Runs an image from where a frame of its main statements stands to the end of the run.
 pub fn pass_all<F: MainFrame, K: Sink>(
-    start: &Start<'_, OneThread, K>,
+    start: &Start<'_, (), K>,
     frame: &mut F,
     store: Store,
     out: &mut K,
