@@ -1,2 +1,3 @@
+pub mod SameEntries
 pub mod OfRegions
 pub mod Says

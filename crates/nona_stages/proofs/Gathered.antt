@@ -1,8 +1,7 @@
 -- The loops outside regions, gathered one after another, and the regions among them.
-use Rattle.std.proofs.Common.{◌≡◌, ◌+◌, ℕ, Bool, true, false, List, [], ◌∷◌, ◌++◌, ◌==◌, Some, length, refl, sym, ap, ◌∙◌, append_assoc, if◌then◌else◌, All}
+use Rattle.std.proofs.Common.{◌≡◌, ◌+◌, ℕ, Bool, true, false, List, [], ◌∷◌, ◌++◌, ◌==◌, Some, length, refl, sym, ap, ◌∙◌, append_assoc, if◌then◌else◌}
 use Rattle.std.specs.Prelude.{map, OnOk, Result, Ok, Err}
 use Rattle.std.proofs.lemmas.List.{map-append, length-map}
-use Rattle.std.proofs.lemmas.List.Elements.{All-nil, All-cons}
 use Rattle.nona_tree.specs.declared.trees.Expr.{Expr}
 use Rattle.nona_tree.specs.declared.trees.Loop.{Loop}
 use Rattle.nona_tree.specs.declared.trees.Stmt.{Stmt, Let, Set, Fold, Put, FoldPut, If, While, For, If', While', For', Print, Row_of-Stmt, end_of-Stmt, more_of-Stmt, items-the_row-Stmt, items_hidden-the_row-Stmt-0}
@@ -157,7 +156,7 @@ at_place false r rest at here behind = behind
 at_one : (b : Bool) (number place : ℕ) (rest : List Mark) (at : ℕ)
     → plan_at (regions_of (seen_from (number + 1) rest)) at ≡ seq_plan → plan_at (regions_of (seen_from number rest)) at ≡ seq_plan
     → plan_at (regions_of (if b then seen.Region (record { number = number; at = place; plan = seq_plan }) ∷ seen_from (number + 1) rest
-      else seen.Plain place why.Seq ∷ seen_from number rest)) at ≡ seq_plan
+    else seen.Plain place why.Seq ∷ seen_from number rest)) at ≡ seq_plan
 at_one true number place rest at more same = at_place (place == at) (record { number = number; at = place; plan = seq_plan }) (regions_of (seen_from (number + 1) rest)) at refl more
 at_one false number place rest at more same = same
 

@@ -1,19 +1,14 @@
 -- Regions by the places of their words `for`.
-use Rattle.std.proofs.Common.{◌≡◌, ◌<◌, ◌≤◌, ◌+◌, ◌-◌, ℕ, Bool, true, false, ◌||◌, ◌==◌, List, [], ◌∷◌, drop, length, refl, sym, ap, subst, ◌∙◌, arith, Option, Some, None, slice_get, get_or, if◌then◌else◌, cond}
+use Rattle.std.proofs.Common.{◌≡◌, ◌<◌, ◌+◌, ◌-◌, ℕ, Bool, true, false, ◌||◌, ◌==◌, List, [], ◌∷◌, drop, length, refl, sym, ap, subst, ◌∙◌, arith, Option, Some, None, slice_get, get_or, if◌then◌else◌}
 use Rattle.std.specs.Prelude.{map}
 use Rattle.std.specs.List.{list_any}
 use Rattle.std.specs.Option.{is_some}
-use Rattle.std.specs.BTreeMap.{BTreeMap, get, is_at, Updates}
-use Rattle.std.specs.Ordering.{nat_cmp}
-use Rattle.std.specs.Cmp.{unsigned_tied}
+use Rattle.std.specs.BTreeMap.{BTreeMap}
 use Rattle.std.proofs.lemmas.List.{drop_more}
 use Rattle.std.proofs.lemmas.Option.{slice_get-get_or}
-use Rattle.nona_tree.specs.declared.trees.Loop.{Loop}
-use Rattle.nona_tree.specs.Entries.{is_among}
 use Rattle.nona_stages.specs.declared.seen.Region.{Region}
 use Rattle.nona_stages.specs.declared.seen.Seen.{Seen}
-use Rattle.nona_stages.specs.declared.seen.Seen.TheVariants as seen
-use Rattle.nona_stages.specs.Seen.{regions_of, seen_places, region_at}
+use Rattle.nona_stages.specs.Seen.{region_at}
 use Rattle.nona_stages.specs.PlansInside.{IsIndexOf, AreIndexed, HasAdded}
 
 some_first : (b : Bool) (r : Region) (o : Option Region) (other : Bool) → is_some o ≡ other → is_some (if b then Some r else o) ≡ (b || other)

@@ -1,4 +1,3 @@
-use Rattle.std.proofs.Common.{refl}
 use Rattle.nona_tree.specs.Entries.{is_among}
 use Rattle.nona_stages.specs.Seen.{seen_of, seen_places}
 use Rattle.morta_task.specs.InSequence.{places_in}
@@ -8,7 +7,7 @@ use Rattle.morta_task.proofs.laws.images_keep.Goals as goal
 pub returns-clause-kept : goal.returns-clause-kept
 returns-clause-kept c = λ p all code checked stands.
     let chosen = is_among (seen_places all) in
-    image_kept p all code _ refl stands (c.regions_have_places.ensures (seen_places all) p.body)
+    image_kept p all code stands (c.regions_have_places.ensures (seen_places all) p.body)
     (c.regions_keep.ensures.few chosen p checked.0)
     (c.regions_keep.ensures.steady chosen p.body (c.checked_is_scoped.ensures.steady p checked))
     (c.regions_keep.ensures.small chosen p checked.0)

@@ -10,4 +10,3 @@ seen_by-requires c =
     let p = c.args.program.now in
     subst (λ (marks : List Mark). length (regions_of (seen_from 1 marks)) + 1 < 2 ^ 32) (sym (gathered _ _ _ _ p.body c.new-marks.ensures.items c.in_ok-add_all.ensures c.deref.ensures.value (c.as_slice.ensures ∙ ap (λ q. q.body) c.program.ensures.program)))
     (subst (λ (k : ℕ). k + 1 < 2 ^ 32) (sym (seen_count p.body)) (c.regions_keep.ensures.few may_reshape p c.program.ensures.checked.0))
-
