@@ -1,7 +1,8 @@
 -- The codes of statements and the regions of loops, one after another.
-use Rattle.std.proofs.Common.{◌≡◌, ◌++◌, List, [], ◌∷◌, sym, ap, subst, append_assoc, ◌∙◌}
+use Rattle.std.proofs.Common.{◌≡◌, ◌<◌, ℕ, zero, suc, ◌++◌, List, [], ◌∷◌, length, sym, ap, subst, append_assoc, ◌∙◌, arith}
 use Rattle.std.proofs.lemmas.List.{append-nil}
-use Rattle.std.specs.Prelude.{map}
+use Rattle.std.specs.Prelude.{map, All, slice_index_or}
+use Rattle.std.proofs.lemmas.List.Elements.{All-head, All-tail}
 use Rattle.std.specs.Borrow.{Bor}
 use Rattle.nona_tree.specs.declared.trees.Loop.{Loop}
 use Rattle.nona_tree.specs.declared.trees.Stmt.{Stmt}
@@ -22,3 +23,9 @@ one_code codes code s left rest all is stands h more units =
 
 pub all_codes : (codes : List SoundView) (rest all : List Stmt) → rest ≡ [] → AreFirst codes rest all → AreUnits codes all
 all_codes codes rest all is h = subst (λ cs. AreUnits cs all) (append-nil codes) (h [] (subst (AreUnits []) (sym is) tt))
+
+-- what is so of all loops is so of each that is lent
+pub all_lent : (P : Loop → Type 0) (lent : List (Bor Loop)) (k : ℕ) (other : Bor Loop) → k < length lent → All P (loops_of lent) → P (slice_index_or lent k other).now
+all_lent P [] k other below all = absurd (omega (arith, below))
+all_lent P (l ∷ rest) zero other below all = All-head P l.now (loops_of rest) all
+all_lent P (l ∷ rest) (suc k) other below all = all_lent P rest k other (omega (arith, below)) (All-tail P l.now (loops_of rest) all)
