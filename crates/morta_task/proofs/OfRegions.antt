@@ -1,15 +1,12 @@
 -- The image of a checked program by its regions is one.
-use mathlib.Core.Path.{fun_ext}
-use Rattle.std.proofs.Common.{◌≡◌, ◌<◌, ◌^◌, ◌+◌, ℕ, Bool, List, [], ◌∷◌, length, refl, sym, ap, subst, ◌∙◌, arith, All}
+use Rattle.std.proofs.Common.{◌≡◌, ◌<◌, ◌^◌, ◌+◌, ℕ, List, [], ◌∷◌, length, refl, sym, ap, subst, ◌∙◌, arith, All}
 use Rattle.std.specs.Prelude.{map}
 use Rattle.std.proofs.lemmas.List.{length-map}
 use Rattle.std.proofs.lemmas.List.Elements.{All-map}
-use Rattle.nona_tree.specs.declared.plans.Plan.{Plan}
 use Rattle.nona_tree.specs.declared.trees.Loop.{Loop}
 use Rattle.nona_tree.specs.declared.trees.Program.{Program}
-use Rattle.nona_tree.specs.declared.trees.Stmt.{Stmt, For}
+use Rattle.nona_tree.specs.declared.trees.Stmt.{For}
 use Rattle.nona_tree.specs.declared.outcomes.Outcome.TheVariants as outcome
-use Rattle.nona_tree.specs.Memory.{Memory}
 use Rattle.nona_tree.specs.Run.{run_all}
 use Rattle.nona_tree.specs.Entries.{Opened, is_among, places_of, regions_all}
 use Rattle.nona_tree.specs.Numbers.{IsI64Stmt}
@@ -70,5 +67,5 @@ pub image_seq : (p : Program) (all : List Seen) (places : List ℕ) → ((at : �
     → image_by p all ≡ image_in_sequence p places
 image_seq p all places plans are =
     let regions = planned_in_sequence all (regions_all (is_among (seen_places all)) p.body) plans
-        ∙ ap (λ (ps : List ℕ). map in_sequence (regions_all (is_among ps) p.body)) are in
+    ∙ ap (λ (ps : List ℕ). map in_sequence (regions_all (is_among ps) p.body)) are in
     λ i. record { main = p.body; regions = regions i }

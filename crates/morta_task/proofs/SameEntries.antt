@@ -1,17 +1,15 @@
 -- Another test that chooses each region, and no loop besides what the first test chooses, gives the same entries.
-use Rattle.std.proofs.Common.{◌≡◌, ◌+◌, ℕ, ℤ, zero, suc, pos, ◌+ℤ◌, Bool, true, false, List, [], ◌∷◌, ◌++◌, length, refl, sym, ap, ◌∙◌, if◌then◌else◌}
-use Rattle.std.specs.Prelude.{min, Result, Ok, Err}
+use Rattle.std.proofs.Common.{◌≡◌, ◌+◌, ℕ, Bool, true, false, List, [], ◌∷◌, ◌++◌, length, refl, sym, ◌∙◌, if◌then◌else◌}
+use Rattle.std.specs.Prelude.{min}
 use Rattle.std.specs.Int.{int_gap}
 use Rattle.std.specs.List.{AllByRecursion}
-use Rattle.nona_tree.specs.declared.outcomes.Trap.{Trap}
-use Rattle.nona_tree.specs.declared.outcomes.Outcome.{Outcome}
 use Rattle.nona_tree.specs.declared.trees.Loop.{Loop}
 use Rattle.nona_tree.specs.declared.trees.Stmt.{Stmt, Let, Set, Fold, Put, FoldPut, If', While', For', Print, Row_of-Stmt, end_of-Stmt, more_of-Stmt, items-the_row-Stmt}
 use Rattle.nona_tree.specs.Memory.{Memory, declare}
 use Rattle.nona_tree.specs.Value.{is_zero, value_of}
-use Rattle.nona_tree.specs.Run.{Ran, run, run_row, block, turn}
+use Rattle.nona_tree.specs.Run.{run, run_row, block, turn}
 use Rattle.nona_tree.specs.Beside.{on_ok, on_done, while_gives, first_give}
-use Rattle.nona_tree.specs.Entries.{Opened, is_among, places_of, loop_with, regions_in, regions_row, regions_all, count_in, count_row, entries, entries_row, entries_all}
+use Rattle.nona_tree.specs.Entries.{Opened, is_among, places_of, loop_with, regions_in, regions_row, regions_all, entries, entries_row, entries_all}
 use Rattle.nona_tree.proofs.Named.{Passes, chosen_all, front_each, back_each, same_in, same_row, back_among, own_among}
 
 -- a region gives itself by both tests, and another loop what stands in it

@@ -5,7 +5,7 @@ ghost use Rattle.nona_units.specs.Units.{AreUnits, HaveRoom, IsUnitAt};
 use nona_code::{Frame, Sound};
 use nona_tree::Stmt;
 use sqlite_items::Items;
-use std::alloc::{AllocError, Global};
+use std::alloc::AllocError;
 use std::marker::Model;
 use std::snapshot::Snapshot;
 
@@ -76,10 +76,10 @@ impl Units {
     }
 
     /// A frame with room for the code of each. It is refused for want of memory alone.
-    pub fn frame(&self, alloc: Global) -> Result<Frame, AllocError>
+    pub fn frame(&self) -> Result<Frame, AllocError>
         ensures { IfOk result (λ frame. frame.room ≡ self.now.room) }
     {
-        Frame::with_room(alloc, self.room)
+        Frame::with_room(*self.compiled.allocator(), self.room)
     }
 
     /// The code of the statement with this number, from 0.

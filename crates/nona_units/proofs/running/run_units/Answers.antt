@@ -1,4 +1,4 @@
-use Rattle.std.proofs.Common.{◌≡◌, ◌<◌, drop, length, subst, ◌∙◌}
+use Rattle.std.proofs.Common.{◌<◌, drop, subst, ◌∙◌}
 use Rattle.nona_tree.specs.declared.outcomes.Outcome.{Outcome}
 use Rattle.nona_units.specs.Units.{FirstReaches}
 use Rattle.nona_units.proofs.Statements.{begins_with, next_unit, next_scoped, last_unit}
