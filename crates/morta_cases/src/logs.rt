@@ -1,7 +1,9 @@
 //! A log with an entry and its intervals.
 
 use crate::programs::checked_of;
-use morta_task::{Ask, Config, Cut, Entry, Image, Interval, Log, Opening, Ran, reshapable_places};
+use morta_task::{Ask, Config, Cut, Entry, Interval, Log, Opening, Ran};
+use nona_gen::generate;
+use nona_stages::regions;
 use nona_store::Store;
 use std::alloc::Global;
 use std::process::Abort;
@@ -29,8 +31,7 @@ fn interval(from: i64, to: i64) -> Interval {
 /// The first entry of `for i in 0..2 {}`.
 fn entry(rt: &impl Abort, alloc: Global) -> Result<Entry, Fail> {
     let checked = checked_of(rt, alloc, b"for i in 0..2 {}")?;
-    let places = reshapable_places(alloc, &checked)?;
-    let image = Image::of(alloc, &checked, places.as_slice())?;
+    let image = generate(alloc, &checked, &regions(alloc, &checked)?)?;
     let store = Store::start(alloc, &checked, Vec::new(alloc))?;
     assert_eq!(rt; image.regions().len(), 1);
     let opening = Opening {

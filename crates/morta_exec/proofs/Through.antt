@@ -214,10 +214,10 @@ first_through left b count is_left regions many = record {
 }
 
 -- all that is said of a run without a log
-pub record SaysThrough (ran : Ran) (sent : Sent) (r : Result Ended SendFault) : Type 0 where
+pub record SaysThrough (ran : Ran) (shown : Sent) (r : Result Ended SendFault) : Type 0 where
   pub ended : IfOk r (λ (ended : Ended). Reaches ran ended.store ended.outcome)
-  pub sent : Sends sent (number_lines ran.store.printed) r
-  pub later : sent.faults_before ≤ sent.faults
+  pub sent : Sends shown (number_lines ran.store.printed) r
+  pub later : shown.faults_before ≤ shown.faults
 
 -- by how it ended
 says_through : (ran : Ran) (sent : Sent) (r : Result Ended SendFault) → IfOk r (λ (ended : Ended). Reaches ran ended.store ended.outcome)

@@ -43,6 +43,13 @@ fn index_of(entry: &Entry, k: u64) -> i64
     offset(entry.low(), k)
 }
 
+/// How many iterations an entry has.
+fn count_of(entry: &Entry) -> u64
+    ensures { result ≡ before entry.now (last entry.now) }
+{
+    gap(entry.low(), entry.last())
+}
+
 /// Runs the whole loop of an entry, one iteration after another.
 fn run_loop(
     image: &Image,
@@ -62,7 +69,8 @@ fn run_loop(
     let turns = entry.turns();
     let mut frame = units.frame()?;
     let mut store = store;
-    'iterations: for k in 0..gap(entry.low(), entry.last()) {
+    let count = count_of(entry);
+    'iterations: for k in 0..count {
         let index = index_of(entry, k);
         match turn_units(units, index, &mut frame, turns, &mut store)? {
             Outcome::Done => {}

@@ -46,7 +46,7 @@ returns-in-Err-clause-stopped g c =
 -- the sink broke off at its numbers
 pub returns-in_err-show-clause-stopped : goal.returns-in_err-show-clause-stopped
 returns-in_err-show-clause-stopped g c =
-    handed_on _ c.from_residual.result _ c.from_residual.ensures
+    handed_on _ c.from_residual.result _ c.from_residual.ensures.1
     (broken_more (sent_since g.K.Sink.written g.K.Sink.faults c.args.start.now.out.value c.show.new.out) c.in-Ok.ran.0.printed (whole_run (began c.args.start.now)).store.printed c.in_err-show.field-0.0
     (behind_prints (g.F.MainFrame.left c.args.frame.now c.args.start.now.turns) (began c.args.start.now) c.args.arrival.entry c.args.count.now.value c.in-Ok.ran.0 c.in-Ok.ran.1
     (g.met.F.MainFrame.only_prints c.args.frame.now c.args.start.now.turns) c.requires.at c.in-Ok.ensures)

@@ -25,7 +25,7 @@ iterations-preserved c =
 pub returns-in_default : goal.returns-in_default
 returns-in_default c =
     let index = to_z-of_z w64 c.index_of-index.result (search rules) ∙ c.index_of-index.ensures in
-    ends_at c.loops_of_entries.ensures c.args.entry.now c.iterations.k c.turn_units.new.store c.in_ok-end.end c.requires.entered (omega (arith, c.iterations-test.true))
+    ends_at c.loops_of_entries.ensures c.args.entry.now c.iterations.k c.turn_units.new.store c.in_ok-end.end c.requires.entered (omega (arith, c.iterations-test.true, c.count_of-count.ensures))
     (next_state c.after_next.ensures.next c.args.entry.now c.iterations.k _ _ _ c.iterations.store _
     c.units_of-units.ensures c.turns-turns.ensures.turns index c.iterations.invariant.state c.in_ok-end.ensures.turn)
     c.in_default.not-Done
@@ -33,4 +33,4 @@ returns-in_default c =
 pub returns : goal.returns
 returns c =
     c.whole_end.ensures c.iterations.store
-    (last_state c.args.entry.now c.iterations.k (before c.args.entry.now (last c.args.entry.now)) c.iterations.store ? c.iterations.invariant.state)
+    (last_state c.args.entry.now c.iterations.k (before c.args.entry.now (last c.args.entry.now)) c.iterations.store (omega (arith, c.iterations.auto.k-end, c.iterations-test.false, c.count_of-count.ensures)) c.iterations.invariant.state)
