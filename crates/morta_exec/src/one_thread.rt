@@ -51,11 +51,7 @@ fn count_of(entry: &Entry) -> u64
 }
 
 /// Runs the whole loop of an entry, one iteration after another.
-fn run_loop(
-    image: &Image,
-    entry: &Entry,
-    store: Store,
-) -> Result<(Store, Outcome), AllocError>
+fn run_loop(image: &Image, entry: &Entry, store: Store) -> Result<(Store, Outcome), AllocError>
     requires entered { IsEntered entry.now }
     requires region { IsIn entry.now image.now }
     requires store { store ≡ entry.now.store }

@@ -12,8 +12,8 @@ use crate::jumps::{
     close_for, close_if, close_while, one_more, open_for, open_if, open_while, turn_if,
 };
 use crate::statements::{count_lets, emit_stmt, put_leave};
-use nona_stages::Plans;
 use nona_code::Instr;
+use nona_stages::Plans;
 use nona_tree::{Expr, Loop, Stmt};
 use std::alloc::{AllocError, Global};
 

@@ -18,8 +18,10 @@ show-requires g c =
 
 pub leave-requires : goal.leave-requires
 leave-requires g c =
-    record { left = region_leaves (g.F.MainFrame.left c.args.frame.now) (began c.args.start.now) c.args.start.now.turns c.args.arrival.entry c.args.count.now.value c.in-Ok.ran.0 c.in-Ok.ran.1
-    c.requires.at c.in-Ok.ensures c.in_default.not-Done }
+    record {
+      left = region_leaves (g.F.MainFrame.left c.args.frame.now) (began c.args.start.now) c.args.start.now.turns c.args.arrival.entry c.args.count.now.value c.in-Ok.ran.0 c.in-Ok.ran.1
+          c.requires.at c.in-Ok.ensures c.in_default.not-Done;
+    }
 
 pub returns-in-Done-clause-goes_on : goal.returns-in-Done-clause-goes_on
 returns-in-Done-clause-goes_on g c =
