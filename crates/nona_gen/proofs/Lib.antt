@@ -9,6 +9,8 @@ pub mod Opened
 pub mod Steady
 pub mod Turning
 pub mod Indices
+pub mod Parts
+pub mod Loops
 pub mod Runs
 pub mod Standing
 pub mod Marks

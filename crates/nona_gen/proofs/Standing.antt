@@ -22,7 +22,8 @@ use Rattle.nona_gen.proofs.Fits.{code_fits}
 use Rattle.nona_gen.proofs.Values.{at}
 use Rattle.nona_gen.proofs.Lands.{RunsBy, cut_whole}
 use Rattle.nona_gen.proofs.Opened.{lets, stmt_opens}
-use Rattle.nona_gen.proofs.Runs.{Fine, around, stmt_runs}
+use Rattle.nona_gen.proofs.Parts.{Fine, around}
+use Rattle.nona_gen.proofs.Runs.{stmt_runs}
 
 let_depth : (o : Answer) (m : Memory) → (with_value o m (λ v. done (declare v m))).end ≢ outcome.Done → length (with_value o m (λ v. done (declare v m))).store.scalars ≡ length m.scalars
 let_depth (Ok v) m h = absurd (h refl)
