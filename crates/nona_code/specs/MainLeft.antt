@@ -1,6 +1,5 @@
 -- What is left to come of a frame for main code.
-use Rattle.std.specs.Prelude.{ℕ, ◌≤◌, Bool, List, length}
-use Rattle.nona_tree.specs.declared.outcomes.Outcome.TheVariants as outcome
+use Rattle.std.specs.Prelude.{◌≤◌, ℕ, Bool, List, length}
 use Rattle.nona_tree.specs.declared.trees.Loop.{Loop}
 use Rattle.nona_tree.specs.declared.trees.Stmt.{Stmt}
 use Rattle.nona_tree.specs.Memory.{Memory}
@@ -19,13 +18,13 @@ use Rattle.nona_code.specs.Stops.{Follows}
 abbrev pub state_in : CodeFrame → Memory → State
 state_in frame m = state_of frame.registers frame.pc m
 
--- with this turn bound, and once the region at hand has ended so, this course is to come of a frame: its code has it to come,
--- its stack has room for the code, and it stands where a way of the code leads
+-- with this turn bound, and once the region at hand has ended so, this course is to come of a frame: its code has it to come, its
+-- stack has room for the code, and a way of the code leads to where it stands
 pub record IsLeft (frame : CodeFrame) (n : ℕ) (r : Ran) (course : Course) : Type 0 where
+  pub left : Left frame.code.now.instrs n (state_in frame r.store) r.end course
   pub room : frame.code.now.deepest ≤ frame.registers.stack.room
   pub base : ℕ
   pub follows : Follows frame.code.now.instrs base (state_in frame r.store)
-  pub left : Left frame.code.now.instrs n (state_in frame r.store) r.end course
 
 -- a frame stands before main code: of whatever statements the code stands for, the whole course is to come
 abbrev pub BeginsMain : SoundView → CodeFrame → Type 0

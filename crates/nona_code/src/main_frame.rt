@@ -1,9 +1,11 @@
 //! A frame for main code.
 
-ghost use Rattle.std.specs.Prelude.{IfOk};
+ghost use Rattle.std.specs.Prelude.{◌≡◌, ◌<◌, ◌≤◌, ◌^◌, length, IfOk};
+ghost use Rattle.nona_code.specs.Machine.{open_at, leave};
 ghost use Rattle.nona_code.specs.MainLeft.{IsLeft, BeginsMain};
 ghost use Rattle.nona_code.specs.MainPrints.{left_prints};
 
+use crate::instr::Instr;
 use crate::opens::count_open;
 use crate::registers::Registers;
 use crate::run::{Stopped, run_from};
@@ -23,6 +25,16 @@ pub struct CodeFrame<'a> {
     registers: Registers,
     /// The instruction that is next.
     pc: usize,
+}
+
+/// Leaves the blocks around the instruction at `pc`: the scalars that were declared in them go.
+fn leave_around(code: &[Instr], pc: usize, store: &mut Store)
+    requires small { length code.now < 2 ^ 31 }
+    requires here { pc ≤ length code.now }
+    requires open { open_at code.now pc ≤ length store.old.scalars }
+    ensures { store.new ≡ leave (open_at code.now pc) store.old }
+{
+    store.cut_scalars(count_open(code, pc));
 }
 
 impl<'a> CodeFrame<'a> {
@@ -60,8 +72,7 @@ impl<'a> MainFrame for CodeFrame<'a> {
     }
 
     fn leave(&mut self, store: &mut Store) {
-        let code = self.code.instrs();
-        store.cut_scalars(count_open(code, self.pc));
+        leave_around(self.code.instrs(), self.pc, store);
     }
 
     ghost only_prints = { left_prints };
