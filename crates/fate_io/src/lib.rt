@@ -11,8 +11,6 @@ mod readers;
 mod sending;
 mod shelves;
 mod sinks;
-#[cfg(test)]
-mod tests;
 
 pub use machine_shelf::FileShelf;
 pub use machine_sink::OutSink;

@@ -12,3 +12,5 @@ mod programs;
 mod runs;
 #[cfg(test)]
 mod scripts;
+#[cfg(test)]
+mod texts;

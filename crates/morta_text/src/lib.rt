@@ -8,8 +8,6 @@ mod log_lines;
 mod memory_lines;
 mod number_lines;
 mod outcome_line;
-#[cfg(test)]
-mod tests;
 
 pub use log_lines::send_log;
 pub use memory_lines::send_memory;

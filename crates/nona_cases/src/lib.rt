@@ -6,6 +6,8 @@
 #[cfg(test)]
 mod ids;
 #[cfg(test)]
+mod plans;
+#[cfg(test)]
 mod programs;
 #[cfg(test)]
 mod stores;

@@ -4,6 +4,7 @@ ghost use Rattle.std.specs.Prelude.{◌≡◌, ◌++◌, false, IfOk, OnOk};
 ghost use Rattle.nona_tree.specs.Faults.{scalar_faults, array_faults, target_faults, use_faults, new_faults, expr_faults, place_faults};
 ghost use Rattle.nona_tree.specs.Ids.{scalar_ids, array_ids, new_ids, expr_ids, access_ids};
 ghost use Rattle.nona_check.specs.First.{first_from};
+ghost use Rattle.nona_check.specs.Primaries.{IsPrimary};
 
 use crate::fault::{note, note_where};
 use crate::scope::{Scope, is_input};
@@ -106,8 +107,32 @@ fn boxed_length(
     Boxed::new(alloc, Expr::Len(resolve_array(array, scope, first)))
 }
 
+/// A number, a scalar, a cell or the length of an array with its ids, in a box.
+#[inline(never)]
+#[cycle(expr)]
+#[tactic(auto, using(crate::proofs::Steps::expr_steps))]
+fn resolve_primary(
+    alloc: Global,
+    expr: &Expr,
+    scope: &Scope,
+    first: &mut Option<ProgramFault>,
+) -> Result<Boxed<Expr>, AllocError>
+    requires { IsPrimary expr.now }
+    ensures ids { IfOk result (λ e. e ≡ expr_ids expr.now scope.now) }
+    ensures faults { OnOk result (first.new ≡ first_from first.old (expr_faults expr.now scope.now)) }
+{
+    match expr {
+        Expr::Number(value) => Expr::boxed_number(alloc, *value),
+        Expr::Scalar(name) => boxed_scalar(alloc, name, scope, first),
+        Expr::Cell(place) => boxed_cell(alloc, place.get(), scope, first),
+        Expr::Len(array) => boxed_length(alloc, array, scope, first),
+        Expr::Neg(_) | Expr::Not(_) | Expr::Binary { .. } => unreachable!(),
+    }
+}
+
 /// An expression with its ids, in a box. An expression may be some 4,096 levels deep: 64 brackets with 64 operators in
-/// each. So a level takes little of the stack here: what is large is in a function of its own.
+/// each. So a level takes little of the stack here: what is large is in `resolve_primary`, which is called at four places
+/// and so stays a function of its own in every build.
 #[cycle(expr)]
 #[tactic(auto, using(crate::proofs::Steps::expr_steps))]
 fn resolve_boxed(
@@ -120,10 +145,10 @@ fn resolve_boxed(
     ensures faults { OnOk result (first.new ≡ first_from first.old (expr_faults expr.now scope.now)) }
 {
     match expr {
-        Expr::Number(value) => Expr::boxed_number(alloc, *value),
-        Expr::Scalar(name) => boxed_scalar(alloc, name, scope, first),
-        Expr::Cell(place) => boxed_cell(alloc, place.get(), scope, first),
-        Expr::Len(array) => boxed_length(alloc, array, scope, first),
+        Expr::Number(_) => resolve_primary(alloc, expr, scope, first),
+        Expr::Scalar(_) => resolve_primary(alloc, expr, scope, first),
+        Expr::Cell(_) => resolve_primary(alloc, expr, scope, first),
+        Expr::Len(_) => resolve_primary(alloc, expr, scope, first),
         Expr::Neg(value) => {
             let value = resolve_boxed(alloc, value.get(), scope, first)?;
             Expr::boxed_neg(alloc, value)
@@ -156,7 +181,8 @@ fn boxed_cell(
     first: &mut Option<ProgramFault>,
 ) -> Result<Boxed<Expr>, AllocError>
     ensures ids { IfOk result (λ e. e ≡ Expr.Cell (access_ids place.now scope.now)) }
-    ensures faults { OnOk result (first.new ≡ first_from first.old (array_faults place.now.array scope.now ++ expr_faults place.now.index scope.now)) }
+    ensures faults { OnOk result (first.new ≡ first_from first.old
+        (array_faults place.now.array scope.now ++ expr_faults place.now.index scope.now)) }
 {
     let place = resolve_access(alloc, place, scope, first)?;
     Boxed::new(alloc, Expr::Cell(place))
@@ -173,7 +199,8 @@ fn resolve_access(
     first: &mut Option<ProgramFault>,
 ) -> Result<Boxed<Access>, AllocError>
     ensures ids { IfOk result (λ c. c ≡ access_ids place.now scope.now) }
-    ensures faults { OnOk result (first.new ≡ first_from first.old (array_faults place.now.array scope.now ++ expr_faults place.now.index scope.now)) }
+    ensures faults { OnOk result (first.new ≡ first_from first.old
+        (array_faults place.now.array scope.now ++ expr_faults place.now.index scope.now)) }
 {
     let array = resolve_array(&place.array, scope, first);
     let index = resolve_boxed(alloc, &place.index, scope, first)?;

@@ -38,7 +38,9 @@ impl Model for Names {
 
     ghost view = { λ s. visible_of s.declared.items };
 
-    ghost invariant = { λ s. (length s.declared.items < 2 ^ 32) × AreDistinct (visible_of s.declared.items) × Agrees s.known (visible_of s.declared.items) };
+    ghost invariant = { λ s. (length s.declared.items < 2 ^ 32)
+        × AreDistinct (visible_of s.declared.items)
+        × Agrees s.known (visible_of s.declared.items) };
 }
 
 impl Names {

@@ -28,6 +28,3 @@ pub use limits::{FIRST_HIDDEN, INSTRUCTIONS, PLACES};
 pub use main_frame::CodeFrame;
 pub use sound::Sound;
 pub use verifying::verify;
-
-#[cfg(test)]
-mod tests;

@@ -1,21 +1,35 @@
-//! Programs whose statements run as units.
+//! Programs that run by their code.
 
+ghost use Rattle.std.specs.Prelude.{◌≤◌, ◌^◌};
+
+use fate_io::MemorySink;
+use morta_exec::{Beginning, run_through};
 use nona_check::check;
+use nona_gen::generate;
 use nona_parse::parse;
-use nona_store::{Ended, read_numbers};
-use nona_tree::{Outcome, Trap, TrapKind};
-use nona_units::run_compiled;
+use nona_stages::regions;
+use nona_store::{Ended, Store, read_numbers};
+use nona_tree::{Outcome, Trap, TrapKind, checked_is_scoped};
 use std::alloc::Global;
 use std::process::Abort;
 use std::test::Fail;
 
 /// How a program ends by the code of its statements, with so many turns of each loop.
-fn ended(rt: &impl Abort, alloc: Global, text: &[u8], turns: u64) -> Result<Ended, Fail> {
+fn ended(rt: &impl Abort, alloc: Global, text: &[u8], turns: u64) -> Result<Ended, Fail>
+    requires some { 1 ≤ turns }
+    requires few { turns ≤ 10 ^ 12 }
+{
     assert!(rt; text.len() <= 1_048_576);
     let program = parse(alloc, text)?;
     let checked = check(alloc, program)?;
     let input = read_numbers(alloc, b"")?;
-    Ok(run_compiled(alloc, &checked, input, turns)?)
+    checked_is_scoped();
+    checked.program();
+    let seen = regions(alloc, &checked)?;
+    let image = generate(alloc, &checked, &seen)?;
+    let store = Store::start(alloc, &checked, input)?;
+    let mut put = MemorySink::new(alloc, 4096, Vec::new(alloc))?;
+    Ok(run_through(alloc, &image, Beginning { store, turns }, &mut put)?)
 }
 
 #[test]

@@ -23,6 +23,7 @@ pub struct Counter {
 }
 
 impl Counter {
+    /// The counts before the first token: no operator, and no open bracket.
     pub fn new(alloc: Global) -> Counter
         ensures { counts_of result ≡ no_counts }
     {

@@ -9,8 +9,6 @@ mod bounds;
 mod law;
 mod lexemes;
 mod lexer;
-#[cfg(test)]
-mod tests;
 mod tokens;
 
 pub use bounds::{BRACKETS, OPERATORS};

@@ -59,7 +59,8 @@ impl Fold {
 /// Says what lets a fold be computed in parts: joins may be grouped and ordered in any way, the
 /// unit changes nothing, and units and joins are numbers of 64 bits. It does nothing when called.
 pub fn fold_laws()
-    ensures associative { (f : Fold) (a b c : ℤ) → FitsSigned w64 a → FitsSigned w64 b → FitsSigned w64 c → join_of f (join_of f a b) c ≡ join_of f a (join_of f b c) }
+    ensures associative { (f : Fold) (a b c : ℤ) → FitsSigned w64 a → FitsSigned w64 b → FitsSigned w64 c
+        → join_of f (join_of f a b) c ≡ join_of f a (join_of f b c) }
     ensures commutative { (f : Fold) (a b : ℤ) → join_of f a b ≡ join_of f b a }
     ensures unit { (f : Fold) (a : ℤ) → FitsSigned w64 a → join_of f (unit_of f) a ≡ a }
     ensures unit_fits { (f : Fold) → FitsSigned w64 (unit_of f) }

@@ -13,6 +13,3 @@ pub use arithmetic::{
 };
 pub use folds::{Fold, fold_laws};
 pub use range::Range;
-
-#[cfg(test)]
-mod tests;

@@ -194,7 +194,8 @@ fn initial(spots: &[Spot]) -> Result<(i64, &[Spot]), ReadFault>
 fn number_and_end(spots: &[Spot]) -> Result<(i64, &[Spot]), ReadFault>
     ensures shorter { IfOk result (λ x. length x.1.now < length spots.now) }
     ensures read { (n : List ℕ) (at : ℕ) → MatchResult result
-        (λ x. Reads (InitNumber n at ∷ Want Sign.Semicolon ∷ []) spots.now (declares_one (Decl.Var (record { name = named n at; value = x.0 }))) x.1.now)
+        (λ x. Reads (InitNumber n at ∷ Want Sign.Semicolon ∷ []) spots.now
+        (declares_one (Decl.Var (record { name = named n at; value = x.0 }))) x.1.now)
         (λ fault. Fails fault (InitNumber n at ∷ Want Sign.Semicolon ∷ []) spots.now) }
 {
     match number(spots) {

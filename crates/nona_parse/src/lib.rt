@@ -13,8 +13,6 @@ mod operators;
 mod pieces;
 mod program;
 mod statements;
-#[cfg(test)]
-mod tests;
 
 pub use fault::ParseFault;
 pub use program::{TEXT_BYTES, parse, reads_one_tree, refuses_for_one_reason};

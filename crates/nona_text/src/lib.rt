@@ -9,8 +9,6 @@ mod digits;
 mod law;
 mod lines;
 mod pieces;
-#[cfg(test)]
-mod tests;
 
 pub use bytes::{is_blank, is_digit};
 pub use digits::{DIGITS, FARTHEST, GREATEST, number_within, signed_number, value};

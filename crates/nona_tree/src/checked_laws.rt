@@ -16,7 +16,8 @@ ghost use Rattle.nona_tree.specs.Scope.{AreScoped, AreSteady};
 /// with, and that they assign no index of a loop.
 pub fn checked_is_scoped()
     ensures declared { (p : Program) → IsChecked p → AreScoped p.body (length p.vars) (length p.arrays + 1) }
-    ensures begun { (p : Program) (input : List ℤ) → IsChecked p → AreScoped p.body (length (start_of p input).scalars) (length (start_of p input).arrays) }
+    ensures begun { (p : Program) (input : List ℤ) → IsChecked p
+        → AreScoped p.body (length (start_of p input).scalars) (length (start_of p input).arrays) }
     ensures steady { (p : Program) → IsChecked p → AreSteady p.body [] }
 {}
 

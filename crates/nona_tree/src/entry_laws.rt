@@ -53,7 +53,8 @@ pub fn turns_from_first()
 /// Says that each entry of a run is to the region of its number, and has the values of that loop's bounds in the store of that
 /// moment, whichever loops are chosen as regions. It does nothing when called.
 pub fn entries_are_regions()
-    ensures { (chosen : Loop → Bool) (body : List Stmt) (n : ℕ) (m : Memory) → All (IsEntryOf (regions_all chosen body)) (entries_all chosen 1 body n m) }
+    ensures { (chosen : Loop → Bool) (body : List Stmt) (n : ℕ) (m : Memory)
+        → All (IsEntryOf (regions_all chosen body)) (entries_all chosen 1 body n m) }
 {}
 
 /// Says that the regions which places name are those that the places of these regions name. It does nothing when called.

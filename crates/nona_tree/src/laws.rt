@@ -52,7 +52,8 @@ pub fn lengths_stay()
 pub fn printed_grows()
     ensures one { (s : Stmt) (n : ℕ) (m : Memory) → Extends m.printed (run s n m).store.printed }
     ensures all { (ss : List Stmt) (n : ℕ) (m : Memory) → Extends m.printed (run_all ss n m).store.printed }
-    ensures turns { (ss : List Stmt) (n : ℕ) (low : ℤ) (k : ℕ) (m : Memory) → Extends m.printed (first_turns (turn (run_all ss n)) low k m).store.printed }
+    ensures turns { (ss : List Stmt) (n : ℕ) (low : ℤ) (k : ℕ) (m : Memory)
+        → Extends m.printed (first_turns (turn (run_all ss n)) low k m).store.printed }
 {}
 
 /// Says that nothing leaves the numbers of 64 bits: a program with such numbers begins with a store of them, each value

@@ -33,6 +33,3 @@ pub use names::{Name, Use};
 pub use outcomes::{Outcome, Trap, TrapKind};
 pub use plans::{Plan, Stage};
 pub use trees::{Access, ArrayDecl, Expr, Loop, Op, Program, Stmt, VarDecl, copy_statements};
-
-#[cfg(test)]
-mod tests;
