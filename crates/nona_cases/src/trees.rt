@@ -1,8 +1,7 @@
-//! Copies of trees, and expressions in boxes.
+//! Copies of trees.
 
 use crate::programs::program_of;
-use nona_tree::{Expr, Op, Stmt, copy_statements};
-use sqlite_items::Boxed;
+use nona_tree::{Stmt, copy_statements};
 use std::alloc::{AllocError, Global};
 use std::process::Abort;
 use std::test::Fail;
@@ -28,7 +27,7 @@ fn assert_copied(rt: &impl Abort, alloc: Global, body: &[Stmt]) -> Result<(), Al
 fn copies_look_alike(rt: HostRuntime) -> Result<(), Fail> {
     let table: [&[u8]; 4] = [
         b"array a[4]; a[wrap 1 + len(a)] = -a[0] * 2; a[1] += !3;",
-        b"var x; let t = x; x = t << 2; x min= 7 % 4;",
+        b"var x; let t = x; x = t << 2; x min= 7 % 4; x = -3 - !4;",
         b"var x = 1; if x { print 1; } else { print 2; } while x > 0 { x = 0; }",
         b"seq for i in 0..2 { for j in i..i + 1 { print j; } }",
     ];
@@ -36,26 +35,5 @@ fn copies_look_alike(rt: HostRuntime) -> Result<(), Fail> {
         let program = program_of(&rt, rt.alloc(), text)?;
         assert_copied(&rt, rt.alloc(), program.body.as_slice())?;
     }
-    Ok(())
-}
-
-/// `-3 - !4`, whose operator stands at 9.
-fn difference(alloc: Global) -> Result<Boxed<Expr>, AllocError> {
-    let left = Expr::boxed_neg(alloc, Expr::boxed_number(alloc, 3)?)?;
-    let right = Expr::boxed_not(alloc, Expr::boxed_number(alloc, 4)?)?;
-    Expr::boxed_binary(alloc, Op::Sub, 9, left, right)
-}
-
-#[test]
-fn expressions_in_boxes(rt: HostRuntime) -> Result<(), Fail> {
-    let value = difference(rt.alloc())?;
-    let stmt = Stmt::Print {
-        value: value.into_inner(),
-        at: 0,
-    };
-    let got = look(rt.alloc(), &stmt)?;
-    let want =
-        "Print { value: Binary { op: Sub, at: 9, left: Boxed { inner: Neg(Boxed { inner: Number(3) }) }, right: Boxed { inner: Not(Boxed { inner: Number(4) }) } }, at: 0 }";
-    assert_eq!(rt; got.as_str(), want);
     Ok(())
 }
