@@ -87,7 +87,8 @@ fn what_is_written_and_the_status(rt: HostRuntime) -> Result<(), Fail> {
     ];
     for (line, read, put, room, status, written) in cases {
         let (report, sink) = call(rt.alloc(), line, read, put, room)?;
-        assert_eq!(rt; (report.status, sink.text()), (status, written.as_bytes()));
+        assert_eq!(rt; report.status, status, "{line}");
+        assert_eq!(rt; sink.text(), written.as_bytes(), "{line}");
     }
     Ok(())
 }
