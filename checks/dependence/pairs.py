@@ -1,16 +1,17 @@
 #!/usr/bin/env python3
 """Pairs of accesses with the answer of the dependence test, found by search.
 
-It prints the table that stands in crates/nona_forms_cases/src/pairs.rt: each row is
+It prints the loops that stand in crates/nona_forms_cases/src/pairs.rt, from their bounds on: first those whose written and read
+access are told apart, then those of which nothing is known. Each is of a row
 
-    kind low high inner_low inner_high c p k d q l answer
+    kind low high inner_low inner_high c p k d q l
 
-for the program
+of numbers:
 
     for i in low..high { for j in inner_low..inner_high { a[c*i + p*j + k] = a[d*i + q*j + l]; } }
 
 kind 0 has these bounds; kind 1 has a variable for high, and kind 2 one for inner_high, so that those bounds aren't constant. The
-answer is 1 where the written and the read access are told apart, and 0 where nothing is known.
+answer is 1 where the accesses are told apart, else 0.
 
 Nothing here is taken from the product: each rule is decided by trying all numbers, and where all bounds are constant each
 answer 1 is tried against every two different iterations and all inner indices.
@@ -85,6 +86,14 @@ def candidate(random_):
     )
 
 
+def text(row):
+    """The text of a row's loop, from its bounds on."""
+    kind, low, high, inner_low, inner_high, c, p, k, d, q, l = row
+    last, inner_last = "n" if kind == 1 else high, "n" if kind == 2 else inner_high
+    loops = f"{low}..{last} {{ for j in {inner_low}..{inner_last} {{"
+    return f"{loops} a[({c})*i + ({p})*j + ({k})] = a[({d})*i + ({q})*j + ({l})]; }} }}"
+
+
 def main():
     random_ = random.Random(17)
     share = {"empty": 20, "constants": 20, "divisor": 40, "distance": 40, "bounds": 30, "none": 50}
@@ -99,8 +108,11 @@ def main():
             assert not meets(row), row
         share[rule] -= 1
         rows.append(row + (told,))
-    for row in rows:
-        print(*row)
+    for wanted, name in [(1, "told apart"), (0, "unknown")]:
+        print(f"# {name}")
+        for row in rows:
+            if row[11] == wanted:
+                print(text(row[:11]))
 
 
 if __name__ == "__main__":

@@ -1,35 +1,21 @@
-//! Lines that no program writes yet, or none in one case, with texts by hand; and a put that fails.
+//! Lines that no program writes yet, or none in one case, with texts by hand.
 
-use fate_io::{MemorySink, SendFault};
+use fate_io::MemorySink;
 use morta_task::{Ask, Config, Cut, Interval, Log, Ran, Scheme, Work};
-use morta_text::{put_numbers, send_log, send_outcome};
+use morta_text::{send_log, send_outcome};
 use nona_tree::{Outcome, Trap, TrapKind};
 use std::alloc::{AllocError, Global};
 use std::test::Fail;
 
-/// A sink with room for the lines of a case, whose puts with these numbers fail.
-fn sink(alloc: Global, failing: &[u64]) -> Result<MemorySink, AllocError> {
-    MemorySink::new(alloc, 1024, Vec::from_slice(alloc, failing)?)
-}
-
-#[test]
-fn numbers_up_to_a_put_that_fails(rt: HostRuntime) -> Result<(), Fail> {
-    let alloc = rt.alloc();
-    let mut out = sink(alloc, &[4])?;
-    let numbers = [0, i64::MIN, i64::MAX, -1234567];
-    assert_eq!(rt;
-        put_numbers(alloc, &numbers, &mut out),
-        Err(SendFault::WriteFailed)
-    );
-    let want = "0\n-9223372036854775808\n9223372036854775807\n-123";
-    assert_eq!(rt; out.text(), want.as_bytes());
-    Ok(())
+/// A sink with room for the lines of a case.
+fn sink(alloc: Global) -> Result<MemorySink, AllocError> {
+    MemorySink::new(alloc, 1024, Vec::new(alloc))
 }
 
 #[test]
 fn outcomes_at_the_first_and_the_last_place(rt: HostRuntime) -> Result<(), Fail> {
     let alloc = rt.alloc();
-    let mut out = sink(alloc, &[])?;
+    let mut out = sink(alloc)?;
     let first = Outcome::Trap(Trap {
         kind: TrapKind::Empty,
         at: 0,
@@ -71,7 +57,7 @@ fn interval(ran: Config, to: i64, work: Option<Work>, cut: Cut) -> Interval {
 #[test]
 fn intervals_under_each_version(rt: HostRuntime) -> Result<(), Fail> {
     let alloc = rt.alloc();
-    let mut out = sink(alloc, &[])?;
+    let mut out = sink(alloc)?;
     let pipe = Config {
         scheme: Scheme::Pipe,
         workers: 16,

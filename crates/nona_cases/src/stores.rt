@@ -1,7 +1,7 @@
-//! The store of a program, and the cells of an array.
+//! The store of a program.
 
 use crate::programs::checked_of;
-use nona_store::{Cells, Store, read_numbers};
+use nona_store::{Store, read_numbers};
 use std::alloc::{AllocError, Global};
 use std::process::Abort;
 use std::test::Fail;
@@ -38,14 +38,5 @@ fn a_store_and_its_copy(rt: HostRuntime) -> Result<(), Fail> {
     assert_holds(&rt, alloc, &began, want.as_str())?;
     let want = format!(in alloc; "Store {{ scalars: [5, 0, 8], {arrays}, printed: [3] }}")?;
     assert_holds(&rt, alloc, &store, want.as_str())?;
-    Ok(())
-}
-
-#[test]
-fn cells_and_their_copy(rt: HostRuntime) -> Result<(), Fail> {
-    let cells = Cells::zeros(rt.alloc(), 3)?;
-    let copy = cells.copy(rt.alloc())?;
-    assert_eq!(rt; copy.as_slice(), [0i64, 0, 0].as_slice());
-    assert_eq!(rt; Cells::none(rt.alloc()).len(), 0);
     Ok(())
 }

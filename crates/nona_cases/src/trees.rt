@@ -1,61 +1,25 @@
-//! Copies of trees, and expressions in boxes.
+//! A copy of a loop.
 
-use crate::programs::program_of;
-use nona_tree::{Expr, Op, Stmt, copy_statements};
-use sqlite_items::Boxed;
-use std::alloc::{AllocError, Global};
-use std::process::Abort;
+use crate::programs::checked_of;
+use nona_tree::Stmt;
 use std::test::Fail;
 
-/// What a statement looks like, with all its parts.
-fn look(alloc: Global, stmt: &Stmt) -> Result<String, AllocError> {
-    format!(in alloc; "{stmt:?}")
-}
-
-/// Copies statements and compares each with its copy.
-fn assert_copied(rt: &impl Abort, alloc: Global, body: &[Stmt]) -> Result<(), AllocError> {
-    let copies = copy_statements(body, alloc)?;
-    assert_eq!(rt; copies.len(), body.len());
-    for (copy, stmt) in copies.as_slice().iter().zip(body.iter()) {
-        let got = look(alloc, copy)?;
-        let want = look(alloc, stmt)?;
-        assert_eq!(rt; got.as_str(), want.as_str());
-    }
-    Ok(())
-}
+/// A loop with each kind of statement and of expression in it.
+const TEXT: &[u8] =
+    b"array a[4]; var x = 1; for i in 0..2 { let t = x; x = t << 2; x min= -3 - !4; a[wrap 1 + len(a)] = a[0]; a[1] += 3; if x { print 1; } else { print 2; } while x > 0 { x = 0; } seq for j in i..i + 1 {} }";
 
 #[test]
-fn copies_look_alike(rt: HostRuntime) -> Result<(), Fail> {
-    let table: [&[u8]; 4] = [
-        b"array a[4]; a[wrap 1 + len(a)] = -a[0] * 2; a[1] += !3;",
-        b"var x; let t = x; x = t << 2; x min= 7 % 4;",
-        b"var x = 1; if x { print 1; } else { print 2; } while x > 0 { x = 0; }",
-        b"seq for i in 0..2 { for j in i..i + 1 { print j; } }",
-    ];
-    for text in table {
-        let program = program_of(&rt, rt.alloc(), text)?;
-        assert_copied(&rt, rt.alloc(), program.body.as_slice())?;
+fn a_loop_and_its_copy_look_alike(rt: HostRuntime) -> Result<(), Fail> {
+    let alloc = rt.alloc();
+    let checked = checked_of(&rt, alloc, TEXT)?;
+    match checked.program().body.as_slice().last() {
+        Some(Stmt::For(l)) => {
+            let want = format!(in alloc; "{l:?}")?;
+            let copy = l.copy(alloc)?;
+            let got = format!(in alloc; "{copy:?}")?;
+            assert_eq!(rt; got.as_str(), want.as_str());
+        }
+        _ => assert!(rt; false, "a loop"),
     }
-    Ok(())
-}
-
-/// `-3 - !4`, whose operator stands at 9.
-fn difference(alloc: Global) -> Result<Boxed<Expr>, AllocError> {
-    let left = Expr::boxed_neg(alloc, Expr::boxed_number(alloc, 3)?)?;
-    let right = Expr::boxed_not(alloc, Expr::boxed_number(alloc, 4)?)?;
-    Expr::boxed_binary(alloc, Op::Sub, 9, left, right)
-}
-
-#[test]
-fn expressions_in_boxes(rt: HostRuntime) -> Result<(), Fail> {
-    let value = difference(rt.alloc())?;
-    let stmt = Stmt::Print {
-        value: value.into_inner(),
-        at: 0,
-    };
-    let got = look(rt.alloc(), &stmt)?;
-    let want =
-        "Print { value: Binary { op: Sub, at: 9, left: Boxed { inner: Neg(Boxed { inner: Number(3) }) }, right: Boxed { inner: Not(Boxed { inner: Number(4) }) } }, at: 0 }";
-    assert_eq!(rt; got.as_str(), want);
     Ok(())
 }

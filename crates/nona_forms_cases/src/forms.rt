@@ -1,9 +1,8 @@
-//! Forms of expressions, and their ranges.
+//! Forms of expressions.
 
-use crate::programs::{checked_of, last_loop};
-use nona_affine::{Names, are_bound, form, loop_names, range};
+use crate::programs::{checked_of, last_loop, shown};
+use nona_affine::{form, loop_names};
 use nona_forms::Form;
-use nona_num::Range;
 use nona_tree::{Checked, Expr, Loop, Stmt};
 use std::alloc::{AllocError, Global};
 use std::process::Abort;
@@ -19,7 +18,7 @@ fn index_of(l: &Loop) -> Option<&Expr> {
 
 /// The form of that index in the last loop of a program.
 fn form_in(alloc: Global, checked: &Checked) -> Result<Option<Form>, AllocError> {
-    match last_loop(checked.program().body.as_slice()) {
+    match last_loop(checked) {
         None => Ok(None),
         Some(l) => match index_of(l) {
             None => Ok(None),
@@ -30,9 +29,10 @@ fn form_in(alloc: Global, checked: &Checked) -> Result<Option<Form>, AllocError>
 
 /// The form of an index in a loop whose own index has the id 2.
 fn form_of(rt: &impl Abort, alloc: Global, index: &str) -> Result<Option<Form>, Fail> {
-    let text = format!(in alloc;
-        "var x; var s; array a[9]; for i in 0..9 {{ let y = i; s += y; a[{index}] = 1; }}"
-    )?;
+    let head = "var x; var s; array a[9]; for i in 0..9 { let y = i; s += y; a[";
+    let mut text = String::from_str(alloc, head)?;
+    text.push_str(index)?;
+    text.push_str("] = 1; }")?;
     let checked = checked_of(rt, alloc, text.as_bytes())?;
     Ok(form_in(alloc, &checked)?)
 }
@@ -60,55 +60,9 @@ fn of_expressions(rt: HostRuntime) -> Result<(), Fail> {
         ("0*(i*i)", "none"),
     ];
     for (index, want) in table {
-        let got = match form_of(&rt, alloc, index)? {
-            None => format!(in alloc; "none")?,
-            Some(form) => shown(alloc, &form)?,
-        };
+        let form = form_of(&rt, alloc, index)?;
+        let got = shown(alloc, form.as_ref())?;
         assert!(rt; got.as_str() == want, "{index}");
     }
-    Ok(())
-}
-
-/// A form's constant, and its terms as pairs of an id and a coefficient.
-fn shown(alloc: Global, form: &Form) -> Result<String, AllocError> {
-    let mut pairs = Vec::new(alloc);
-    for t in form.terms() {
-        pairs.push((t.id, t.coefficient))?;
-    }
-    format!(in alloc; "{} {pairs:?}", form.constant())
-}
-
-#[test]
-fn ranges(rt: HostRuntime) -> Result<(), Fail> {
-    let alloc = rt.alloc();
-    let bounds = [
-        (2, Range { low: 0, high: 9 }),
-        (0, Range { low: -3, high: 4 }),
-    ];
-    let table = [("2*i + 1", 1, 19), ("5 - i - 2*x", -12, 11), ("7", 7, 7)];
-    for (index, low, high) in table {
-        let got = match form_of(&rt, alloc, index)? {
-            None => None,
-            Some(form) => {
-                if are_bound(&form, bounds.as_slice()) {
-                    Some(range(&form, bounds.as_slice()))
-                } else {
-                    None
-                }
-            }
-        };
-        assert_eq!(rt; got, Some(Range { low, high }));
-    }
-    Ok(())
-}
-
-#[test]
-fn of_listed_names(rt: HostRuntime) -> Result<(), Fail> {
-    let alloc = rt.alloc();
-    let mut ids = Vec::new(alloc);
-    ids.push(7)?;
-    ids.push(3)?;
-    let names = Names::of(ids);
-    assert!(rt; names.has(3) && names.has(7) && !names.has(5));
     Ok(())
 }

@@ -2,10 +2,10 @@
 
 use nona_affine::{apart, shape, spots};
 use nona_check::check;
-use nona_forms::{LoopShape, Spot, Verdict};
+use nona_forms::{Form, LoopShape, Spot, Verdict};
 use nona_parse::parse;
 use nona_tree::{Checked, Loop, Stmt};
-use std::alloc::Global;
+use std::alloc::{AllocError, Global};
 use std::process::Abort;
 use std::test::Fail;
 
@@ -17,40 +17,53 @@ pub fn checked_of(rt: &impl Abort, alloc: Global, text: &[u8]) -> Result<Checked
 }
 
 /// The loop that comes last.
-pub fn last_loop(body: &[Stmt]) -> Option<&Loop> {
-    match body.last()? {
+pub fn last_loop(checked: &Checked) -> Option<&Loop> {
+    match checked.program().body.as_slice().last()? {
         Stmt::For(l) => Some(l),
         _ => None,
     }
 }
 
-/// A loop as the dependence test sees it, and its accesses.
-#[derive(Debug, Drop)]
-pub struct Seen {
-    pub shape: LoopShape,
-    pub spots: Vec<Spot>,
-}
-
-/// What is seen of the loop that comes last in a text.
-pub fn seen_in(rt: &impl Abort, alloc: Global, text: &[u8]) -> Result<Option<Seen>, Fail> {
-    let checked = checked_of(rt, alloc, text)?;
-    match last_loop(checked.program().body.as_slice()) {
-        None => Ok(None),
-        Some(l) => Ok(Some(Seen {
-            shape: shape(alloc, l)?,
-            spots: spots(alloc, l)?,
-        })),
-    }
-}
-
-/// What the dependence test says of two accesses, which are counted from 0 in text order.
-pub fn told(seen: &Option<Seen>, first: usize, second: usize) -> Option<Verdict> {
-    match seen {
-        None => None,
-        Some(seen) => {
-            let x = seen.spots.get(first)?;
-            let y = seen.spots.get(second)?;
-            Some(apart(x, y, &seen.shape))
+/// A form's constant, and its terms as pairs of an id and a coefficient.
+pub fn shown(alloc: Global, form: Option<&Form>) -> Result<String, AllocError> {
+    match form {
+        None => String::from_str(alloc, "none"),
+        Some(form) => {
+            let mut pairs = Vec::new(alloc);
+            for t in form.terms() {
+                pairs.push((t.id, t.coefficient))?;
+            }
+            format!(in alloc; "{} {pairs:?}", form.constant())
         }
     }
+}
+
+/// What the test says of the first and the last of these accesses.
+fn told(spots: &[Spot], shape: &LoopShape) -> Option<Verdict> {
+    let first = spots.first()?;
+    let last = spots.last()?;
+    Some(apart(first, last, shape))
+}
+
+/// What it says of the first and the last access of the loop that comes last in a text.
+fn verdict(rt: &impl Abort, alloc: Global, text: &[u8]) -> Result<Option<Verdict>, Fail> {
+    let checked = checked_of(rt, alloc, text)?;
+    match last_loop(&checked) {
+        None => Ok(None),
+        Some(l) => {
+            let spots = spots(alloc, l)?;
+            Ok(told(&spots, &shape(alloc, l)?))
+        }
+    }
+}
+
+/// Compares what the test says of the first and the last access of loops, each in a line from its bounds on.
+pub fn compare(rt: &impl Abort, alloc: Global, loops: &str, want: Verdict) -> Result<(), Fail> {
+    for line in loops.split('\n') {
+        let mut text = String::from_str(alloc, "var n; var x; array a[9]; for i in ")?;
+        text.push_str(line)?;
+        let got = verdict(rt, alloc, text.as_bytes())?;
+        assert!(rt; got == Some(want), "{line}");
+    }
+    Ok(())
 }

@@ -1,25 +1,17 @@
 //! The accesses of loops in text order.
 
-use crate::programs::seen_in;
-use nona_forms::{InnerLoop, Spot};
+use crate::programs::{checked_of, last_loop, shown};
+use nona_affine::spots;
+use nona_forms::Spot;
 use std::alloc::{AllocError, Global};
 use std::process::Abort;
 use std::test::Fail;
 
 /// What is seen of an access, in a line.
-fn shown(alloc: Global, spot: &Spot) -> Result<String, AllocError> {
+fn line_of(alloc: Global, spot: &Spot) -> Result<String, AllocError> {
     let kind = if spot.write { "writes" } else { "reads" };
     let wrap = if spot.wrap { " wrapped" } else { "" };
-    let form = match &spot.form {
-        None => format!(in alloc; "none")?,
-        Some(form) => {
-            let mut pairs = Vec::new(alloc);
-            for t in form.terms() {
-                pairs.push((t.id, t.coefficient))?;
-            }
-            format!(in alloc; "{} {pairs:?}", form.constant())?
-        }
-    };
+    let form = shown(alloc, spot.form.as_ref())?;
     let mut inner = Vec::new(alloc);
     for l in spot.inner.as_slice() {
         inner.push(l.id)?;
@@ -30,17 +22,21 @@ fn shown(alloc: Global, spot: &Spot) -> Result<String, AllocError> {
     )
 }
 
+/// The accesses of the loop that comes last in a text.
+fn spots_of(rt: &impl Abort, alloc: Global, text: &[u8]) -> Result<Vec<Spot>, Fail> {
+    let checked = checked_of(rt, alloc, text)?;
+    match last_loop(&checked) {
+        None => Ok(Vec::new(alloc)),
+        Some(l) => Ok(spots(alloc, l)?),
+    }
+}
+
 fn compare(rt: &impl Abort, alloc: Global, text: &str, want: &[&str]) -> Result<(), Fail> {
-    let seen = seen_in(rt, alloc, text.as_bytes())?;
-    match seen {
-        None => assert!(rt; false, "a loop"),
-        Some(seen) => {
-            assert_eq!(rt; seen.spots.len(), want.len());
-            for (spot, line) in seen.spots.iter().zip(want) {
-                let got = shown(alloc, spot)?;
-                assert_eq!(rt; got.as_str(), *line);
-            }
-        }
+    let spots = spots_of(rt, alloc, text.as_bytes())?;
+    assert_eq!(rt; spots.len(), want.len());
+    for (spot, line) in spots.iter().zip(want) {
+        let got = line_of(alloc, spot)?;
+        assert_eq!(rt; got.as_str(), *line);
     }
     Ok(())
 }
@@ -70,18 +66,12 @@ fn of_two_programs(rt: HostRuntime) -> Result<(), Fail> {
 
 #[test]
 fn of_every_statement(rt: HostRuntime) -> Result<(), Fail> {
-    let body =
-        "let t = a[0]; x = a[1]; x += a[2]; a[b[i]] += a[3]; if a[4] { print a[5]; } else { b[wrap x] = 1; }";
-    let loops =
-        "for j in 0..a[6] { for k in j..3 { b[k - i] = len(a); } } while a[7] { a[y] = !a[8]; }";
-    let alloc = rt.alloc();
-    let text = format!(in alloc;
-        "var x; var y; array a[9]; array b[9]; for i in 0..9 {{ {body} {loops} }}"
-    )?;
+    let text =
+        "var x; var y; array a[9]; array b[9]; for i in 0..9 { let t = a[0]; x = a[1]; x += a[2]; a[b[i]] += a[3]; if a[4] { print a[5]; } else { b[wrap x] = 1; } for j in 0..a[6] { for k in j..3 { b[k - i] = len(a); } } while a[7] { a[y] = !a[8]; } }";
     compare(
         &rt,
-        alloc,
-        text.as_str(),
+        rt.alloc(),
+        text,
         &[
             "reads 1 at 62: 0 [] in []",
             "reads 1 at 72: 1 [] in []",
@@ -99,33 +89,4 @@ fn of_every_statement(rt: HostRuntime) -> Result<(), Fail> {
             "reads 1 at 233: 8 [] in []",
         ],
     )
-}
-
-#[test]
-fn a_copy_of_an_inner_loop(rt: HostRuntime) -> Result<(), Fail> {
-    let alloc = rt.alloc();
-    let text = "var x; array a[9]; for i in 0..9 { for j in 2*i..x + 5 { a[j] = 1; } }";
-    match seen_in(&rt, alloc, text.as_bytes())? {
-        None => assert!(rt; false, "a loop"),
-        Some(seen) => {
-            for spot in &seen.spots {
-                for l in spot.inner.as_slice() {
-                    assert_same(&rt, alloc, l, &l.copy(alloc)?)?;
-                }
-            }
-        }
-    }
-    Ok(())
-}
-
-fn assert_same(
-    rt: &impl Abort,
-    alloc: Global,
-    l: &InnerLoop,
-    copy: &InnerLoop,
-) -> Result<(), AllocError> {
-    let first = format!(in alloc; "{l:?}")?;
-    let second = format!(in alloc; "{copy:?}")?;
-    assert_eq!(rt; first.as_str(), second.as_str());
-    Ok(())
 }

@@ -4,9 +4,7 @@ use crate::report::Report;
 use crate::status::Status;
 use crate::still::parcae_still;
 use fate_io::{MemoryShelf, MemorySink};
-use nona_tree::Outcome;
 use std::alloc::{AllocError, Global};
-use std::process::Abort;
 use std::test::Fail;
 
 const ROOM: usize = 4096;
@@ -30,104 +28,95 @@ const HELD: [(&str, &str); 3] = [
     ("script", "use seq 1 until 1"),
 ];
 
-/// A call with these words over the files above, a shelf that fails at the reads of these numbers, and a sink that has so much
-/// room and fails at the puts of these numbers; and what it wrote.
+/// A call with these words over the files above, a shelf that fails at the read of this number, and a sink that has so much room
+/// and fails at the put of this number, each from 1 and at 0 none; and what it wrote.
 fn call(
     alloc: Global,
     line: &str,
-    failing_reads: &[u64],
+    read: u64,
+    put: u64,
     room: usize,
-    failing_puts: &[u64],
 ) -> Result<(Report, MemorySink), AllocError> {
     let mut held = Vec::new(alloc);
     for (name, text) in HELD {
-        held.push((
-            String::from_str(alloc, name)?,
-            Vec::from_slice(alloc, text.as_bytes())?,
-        ))?;
+        let bytes = Vec::from_slice(alloc, text.as_bytes())?;
+        held.push((String::from_str(alloc, name)?, bytes))?;
     }
-    let mut shelf = MemoryShelf::new(alloc, held, Vec::from_slice(alloc, failing_reads)?);
-    let mut sink = MemorySink::new(alloc, room, Vec::from_slice(alloc, failing_puts)?)?;
+    let mut shelf = MemoryShelf::new(alloc, held, Vec::from_slice(alloc, &[read])?);
+    let mut sink = MemorySink::new(alloc, room, Vec::from_slice(alloc, &[put])?)?;
     let report = parcae_still(alloc, &words_of(alloc, line)?, &mut shelf, &mut sink);
     Ok((report, sink))
 }
 
+/// Words of a replay that asks for all there is.
 const LINE: &str = "replay mixed input --script script --memory --log";
 
-#[test]
-fn failing_reads_are_named(rt: HostRuntime) -> Result<(), Fail> {
-    let cases = [
-        (LINE, 1, "read failed program\n"),
-        (LINE, 2, "read failed input\n"),
-        (LINE, 3, "read failed script\n"),
-        ("seq mixed input", 1, "read failed program\n"),
-        ("seq mixed input", 2, "read failed input\n"),
-    ];
-    for (line, failing, written) in cases {
-        let (report, sink) = call(rt.alloc(), line, &[failing], ROOM, &[])?;
-        assert_eq!(rt; report.status, Status::ReadFailed, "{line}");
-        assert_eq!(rt; sink.text(), written.as_bytes(), "{line}");
-    }
-    Ok(())
-}
-
-/// What the line above writes.
+/// What they write.
 const WHOLE: &str =
     "12\n345\n345\nvar s = 0\narray a 2\na[1] = 1\nentry 1 region 1 low 0 high 2\nfrom 0 to 1 asked seq 1 ran seq 1 steps 4 waits 0 ticks 4 end limit\nfrom 1 to 2 asked seq 1 ran seq 1 steps 4 waits 0 ticks 4 end limit\nintervals 2\n";
 
 #[test]
-fn each_failing_put_leaves_a_front(rt: HostRuntime) -> Result<(), Fail> {
+fn what_is_written_and_the_status(rt: HostRuntime) -> Result<(), Fail> {
+    use Status::{Done, ReadFailed, WriteFailed};
     let cases = [
-        (1, 0, false),
-        (2, 1, false),
-        (3, 2, false),
-        (4, 2, true),
-        (5, 2, true),
-        (6, 2, true),
-        (7, 2, true),
-        (8, 2, true),
-        (9, 2, true),
-        (10, 2, true),
+        (LINE, 0, 0, ROOM, Done, WHOLE),
+        ("seq mixed", 0, 0, ROOM, Done, "12\n345\n345\n"),
+        (LINE, 1, 0, ROOM, ReadFailed, "read failed program\n"),
+        (LINE, 2, 0, ROOM, ReadFailed, "read failed input\n"),
+        (LINE, 3, 0, ROOM, ReadFailed, "read failed script\n"),
+        (
+            "seq mixed input",
+            2,
+            0,
+            ROOM,
+            ReadFailed,
+            "read failed input\n",
+        ),
+        ("seq mixed", 0, 2, ROOM, WriteFailed, "12\n34"),
+        ("seq absent", 0, 1, ROOM, WriteFailed, "read faile"),
+        ("seq", 0, 1, ROOM, WriteFailed, "usa"),
+        ("seq mixed", 0, 9, 5, WriteFailed, "12\n34"),
+        (
+            "replay mixed --script script",
+            0,
+            9,
+            4,
+            WriteFailed,
+            "12\n3",
+        ),
     ];
-    for (put, intervals, ended) in cases {
-        let (report, sink) = call(rt.alloc(), LINE, &[], ROOM, &[put])?;
-        assert_eq!(rt; report.status, Status::WriteFailed, "put {put}");
-        assert!(rt; WHOLE.as_bytes().starts_with(sink.text()), "put {put}");
-        assert_eq!(rt; report.log.intervals().len(), intervals, "put {put}");
-        assert_eq!(rt; report.outcome.is_some(), ended, "put {put}");
-        assert_eq!(rt; report.store.is_some(), ended, "put {put}");
+    for (line, read, put, room, status, written) in cases {
+        let (report, sink) = call(rt.alloc(), line, read, put, room)?;
+        assert_eq!(rt; report.status, status, "{line}");
+        assert_eq!(rt; sink.text(), written.as_bytes(), "{line}");
     }
     Ok(())
 }
 
-#[test]
-fn a_whole_call_tells_its_run(rt: HostRuntime) -> Result<(), Fail> {
-    let (report, sink) = call(rt.alloc(), LINE, &[], ROOM, &[])?;
-    assert_eq!(rt; report.status, Status::Done);
-    assert_eq!(rt; report.outcome, Some(Outcome::Done));
-    assert!(rt; report.store.is_some());
-    assert_eq!(rt; report.log.intervals().len(), 2);
-    assert_eq!(rt; sink.text(), WHOLE.as_bytes());
-    let (report, sink) = call(rt.alloc(), "seq mixed", &[], ROOM, &[])?;
-    assert_eq!(rt; report.status, Status::Done);
-    assert_eq!(rt; report.log.intervals().len(), 0);
-    assert_eq!(rt; sink.text(), b"12\n345\n345\n".as_slice());
-    Ok(())
+/// The intervals of a report's log, and whether it has an outcome and a store.
+fn parts(report: &Report) -> (usize, bool, bool) {
+    (
+        report.log.intervals().len(),
+        report.outcome.is_some(),
+        report.store.is_some(),
+    )
 }
 
 #[test]
-fn a_half_line_is_left(rt: HostRuntime) -> Result<(), Fail> {
+fn what_is_told_beside_a_front(rt: HostRuntime) -> Result<(), Fail> {
     let cases = [
-        ("seq mixed", 2, ROOM, "12\n34"),
-        ("seq absent", 1, ROOM, "read faile"),
-        ("seq", 1, ROOM, "usa"),
-        ("seq mixed", 9, 5, "12\n34"),
-        ("replay mixed --script script", 9, 4, "12\n3"),
+        (0, 2, true),
+        (1, 0, false),
+        (2, 1, false),
+        (3, 2, false),
+        (4, 2, true),
+        (7, 2, true),
+        (10, 2, true),
     ];
-    for (line, put, room, written) in cases {
-        let (report, sink) = call(rt.alloc(), line, &[], room, &[put])?;
-        assert_eq!(rt; report.status, Status::WriteFailed, "{line}");
-        assert_eq!(rt; sink.text(), written.as_bytes(), "{line}");
+    for (put, intervals, ended) in cases {
+        let (report, sink) = call(rt.alloc(), LINE, 0, put, ROOM)?;
+        assert_eq!(rt; parts(&report), (intervals, ended, ended), "put {put}");
+        assert!(rt; WHOLE.as_bytes().starts_with(sink.text()), "put {put}");
     }
     Ok(())
 }
