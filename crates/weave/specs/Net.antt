@@ -47,9 +47,9 @@ net_of n = record {
   moves = n.moves;
 }
 
--- what stands of it at each step: its units are those of the entry's loop, and its frame has room for them; the scalars around them are those of the entry's
--- store; it begins at an index of the entry, and each index up to its limit is a number of 64 bits; the limit is at most
--- as many turns as a loop may have; and its place is one of its units
+-- what stands of it at each step: its units are those of the entry's loop, and its frame has room for them; the scalars around
+-- them are those of the entry's store; it begins at an index of the entry, and each index up to its limit is a number of 64 bits;
+-- the limit is at most as many turns as a loop may have; and its place is one of its units
 pub record IsSet (n : Net) : Type 0 where
   pub entered : IsEntered n.entry.now
   pub units : n.units.now.body ≡ n.entry.now.looped.body

@@ -103,7 +103,8 @@ impl Weave {
         ensures done { IfOk result (λ r. IsDone entry.now config handoff.next limit r.1) }
         ensures hands_on { IfOk result (λ r. HandsOn entry.now r.1 r.0) }
         ensures replayed { IfOk result (λ r. IsReplayed self.old.capacity config entry.now handoff.next limit self.old.left r.1) }
-        ensures left { OnOk result (self.new ≡ record self.old { left = commands_left self.old.capacity config entry.now handoff.next limit self.old.left }) }
+        ensures left { OnOk result (self.new
+            ≡ record self.old { left = commands_left self.old.capacity config entry.now handoff.next limit self.old.left }) }
     {
         let _ = config;
         let mut net = Net::begin(entry, units, handoff, limit)?;
