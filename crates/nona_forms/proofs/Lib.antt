@@ -4,6 +4,7 @@ pub mod Division
 pub mod InBoxes
 pub mod Differing
 pub mod Named
+pub mod Ordered
 pub mod Exact
 pub mod Separate
 pub mod Sound

@@ -11,10 +11,11 @@ use crate::terms::Term;
 use std::alloc::{AllocError, Global};
 use std::marker::Model;
 
-/// An affine form: a constant, and whole numbers of scalars in order of their ids, none of them 0.
+/// An affine form: a constant, and whole numbers of scalars.
 ///
 /// The absolute value of the constant is at most `CONSTANT`, that of each coefficient at most `COEFFICIENT`, and there are
-/// at most `TERMS` terms.
+/// at most `TERMS` terms. The form of an expression has its terms in order of id, each id once and none of them 0
+/// (`form_is_kept`).
 #[derive(Debug, Drop)]
 pub struct Form {
     constant: i128,
@@ -98,7 +99,7 @@ impl Form {
         self.constant
     }
 
-    /// The terms, in order of id: at most `TERMS`, each coefficient at most `COEFFICIENT` from 0.
+    /// The terms: at most `TERMS`, each coefficient at most `COEFFICIENT` from 0.
     pub fn terms(&self) -> &[Term]
         ensures terms { result.now ≡ self.now.terms }
         ensures within { All (λ (t : Term). IsTrue (is_coefficient t.coefficient)) result.now }

@@ -1,6 +1,6 @@
 //! Laws of the forms of a loop. Each function does nothing when it is called: its contract is the law.
 
-ghost use Rattle.std.specs.Prelude.{◌≡◌, ℕ, ◌<◌, ◌*◌, ℤ, pos, ◌+ℤ◌, ◌*ℤ◌, List, [], true, false, ◌≤ℤ◌, ◌<ℤ◌, All, IsTrue, Ok, Some};
+ghost use Rattle.std.specs.Prelude.{◌≡◌, ℕ, ◌<◌, ◌*◌, ℤ, pos, ◌+ℤ◌, ◌*ℤ◌, List, [], true, ◌≤ℤ◌, ◌<ℤ◌, All, IsTrue, Ok, Some};
 ghost use Rattle.std.specs.Int.{IsGcd};
 ghost use Rattle.std.specs.declared.option.Option.{Option};
 ghost use Rattle.std.specs.List.{Contains};
@@ -13,7 +13,7 @@ ghost use Rattle.nona_tree.specs.Memory.{Memory, scalar_at, declare};
 ghost use Rattle.nona_tree.specs.Numbers.{IsI64, IsI64Expr, AreI64};
 ghost use Rattle.nona_tree.specs.Scope.{IsSteady};
 ghost use Rattle.nona_tree.specs.Value.{value_of};
-ghost use Rattle.nona_forms.specs.Affine.{Affine, among, form_of, form_at};
+ghost use Rattle.nona_forms.specs.Affine.{Affine, KeepsOrder, among, form_of, form_at};
 ghost use Rattle.nona_forms.specs.References.{Reference, IsPossibleAt, references_all, names_of};
 ghost use Rattle.nona_forms.specs.Verdicts.{names_inside, spot_of, shape_of, is_apart, verdict_of, gcd_of, divides, is_distance, has_multiple};
 ghost use Rattle.nona_forms.specs.Separate.{IsLoopEntry, Lies, AreSeparate};
@@ -28,6 +28,12 @@ pub fn form_is_value()
     ensures members { (e : Expr) (names others : List ℕ) → ((id : ℕ) → among id names ≡ among id others) → form_of e names ≡ form_of e others }
     ensures value { (e : Expr) (names : List ℕ) (m : Memory) (f : Affine) → form_of e names ≡ Some f → IsI64Expr e → AreI64 m → IsI64 (form_at (scalar_at m) f)
         → value_of e m ≡ Ok (form_at (scalar_at m) f) }
+{}
+
+/// Says that the form of an expression is within a form's bounds and has its terms in order of id, each id once and no
+/// coefficient 0.
+pub fn form_is_kept()
+    ensures { (e : Expr) (names : List ℕ) (f : Affine) → form_of e names ≡ Some f → KeepsOrder f }
 {}
 
 /// Says that two accesses of a loop that are told apart are separate, where the exact values of both lie in their arrays for

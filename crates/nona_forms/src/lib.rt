@@ -12,7 +12,7 @@ mod shapes;
 mod terms;
 
 pub use forms::{Form, is_coefficient};
-pub use laws::{apart_is_separate, deeds_touch, form_is_value, pair_laws, verdict_is_first_answer};
+pub use laws::{apart_is_separate, deeds_touch, form_is_kept, form_is_value, pair_laws, verdict_is_first_answer};
 pub use limits::{ACCESSES, COEFFICIENT, CONSTANT, TERMS};
 pub use shapes::{InnerLoop, LoopShape, Spot, Verdict};
 pub use terms::Term;
