@@ -12,3 +12,8 @@ pub mod Meanings
 pub mod Cascade
 pub mod Steadier
 pub mod Touching
+pub mod Spared
+pub mod Fitting
+pub mod FitsDone
+pub mod GuardDone
+pub mod GuardLies

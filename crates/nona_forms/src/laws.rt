@@ -1,11 +1,12 @@
 //! Laws of the forms of a loop. Each function does nothing when it is called: its contract is the law.
 
-ghost use Rattle.std.specs.Prelude.{◌≡◌, ℕ, ◌<◌, ◌*◌, ℤ, pos, ◌+ℤ◌, ◌*ℤ◌, List, [], true, ◌≤ℤ◌, ◌<ℤ◌, All, IsTrue, Ok, Some};
+ghost use Rattle.std.specs.Prelude.{◌≡◌, ℕ, ◌<◌, ◌*◌, ℤ, pos, ◌+ℤ◌, ◌*ℤ◌, List, [], true, false, ◌≤ℤ◌, ◌<ℤ◌, All, IsTrue, Ok, Some};
 ghost use Rattle.std.specs.Int.{IsGcd};
 ghost use Rattle.std.specs.declared.option.Option.{Option};
 ghost use Rattle.std.specs.List.{Contains};
 ghost use Rattle.nona_tree.specs.declared.trees.Expr.{Expr};
 ghost use Rattle.nona_tree.specs.declared.trees.Loop.{Loop};
+ghost use Rattle.nona_tree.specs.declared.outcomes.Outcome.TheVariants.{Done};
 ghost use Rattle.nona_tree.specs.declared.trees.Stmt.{For};
 ghost use Rattle.nona_tree.specs.Deeds.{deeds_all};
 ghost use Rattle.nona_tree.specs.Entries.{Entry, after};
@@ -14,6 +15,8 @@ ghost use Rattle.nona_tree.specs.Numbers.{IsI64, IsI64Expr, AreI64};
 ghost use Rattle.nona_tree.specs.Scope.{IsSteady};
 ghost use Rattle.nona_tree.specs.Value.{value_of};
 ghost use Rattle.nona_forms.specs.Affine.{Affine, KeepsOrder, among, form_of, form_at};
+ghost use Rattle.nona_forms.specs.Calm.{is_calm};
+ghost use Rattle.nona_forms.specs.Guards.{guard_of};
 ghost use Rattle.nona_forms.specs.References.{Reference, IsPossibleAt, references_all, names_of};
 ghost use Rattle.nona_forms.specs.Verdicts.{names_inside, spot_of, shape_of, is_apart, verdict_of, gcd_of, divides, is_distance, has_multiple};
 ghost use Rattle.nona_forms.specs.Separate.{IsLoopEntry, Lies, AreSeparate};
@@ -71,4 +74,18 @@ pub fn deeds_touch()
         → low ≤ℤ i → i <ℤ last → MayBegin l entry m → All (IsOfAccess l entry i) (deeds_all l.body n (declare i m)) }
     ensures begins { (e : Entry) (k : ℕ) → IsLoopEntry e.looped e.store e.low e.last → IsSteady (For e.looped) [] → (e.low +ℤ pos k) ≤ℤ e.last
         → MayBegin e.looped e.store (after e k).store }
+{}
+
+/// Says that where the guard of a calm loop's entry holds, no iteration from its low bound to the last but one traps or is out
+/// of turns.
+pub fn guard_is_enough()
+    ensures { (e : Entry) → IsLoopEntry e.looped e.store e.low e.last → IsSteady (For e.looped) [] → IsTrue (is_calm e.looped)
+        → IsTrue (guard_of e.looped e.store e.low e.last e.turns) → (k : ℕ) → (e.low +ℤ pos k) ≤ℤ e.last → (after e k).end ≡ Done }
+{}
+
+/// Says that where the guard of an entry holds, the exact value of the index of each access without `wrap` lies in its array,
+/// which is what accesses that are told apart need to be separate.
+pub fn guard_is_within()
+    ensures { (l : Loop) (entry : Memory) (low last : ℤ) (n : ℕ) (x : Reference) → IsLoopEntry l entry low last → IsTrue (guard_of l entry low last n)
+        → Contains (references_all l.body) x → x.access.wrap ≡ false → Lies l entry low last x }
 {}
