@@ -9,11 +9,11 @@ use Rattle.nona_tree.specs.declared.trees.Access.{Access}
 use Rattle.nona_tree.specs.declared.trees.Expr.{Expr, Cell, Neg, Not, Binary}
 use Rattle.nona_tree.specs.declared.trees.Expr.TheBlock.{hidden-the_row-Expr-1, hidden-the_row-Access-0}
 use Rattle.nona_tree.specs.declared.trees.Loop.{Loop}
-use Rattle.nona_tree.specs.declared.trees.Stmt.{Stmt, If, While, For, Row_of-Stmt, end_of-Stmt, more_of-Stmt, items-the_row-Stmt, items_hidden-the_row-Stmt-0}
+use Rattle.nona_tree.specs.declared.trees.Stmt.{Stmt, If, For, Row_of-Stmt, end_of-Stmt, more_of-Stmt, items-the_row-Stmt, items_hidden-the_row-Stmt-0}
 use Rattle.nona_tree.specs.declared.trees.Stmt.TheBlock.{hidden-the_row-Stmt-0}
 use Rattle.nona_forms.specs.Affine.{Affine, form_of}
 use Rattle.nona_guard.specs.declared.checks.Check.{Check}
-use Rattle.nona_guard.specs.Asked.{asked_place, asked_expr, asked_cell, asked_loop, asked, asked_row, asked_all}
+use Rattle.nona_guard.specs.Asked.{asked_place, asked_expr, asked_loop, asked, asked_row, asked_all}
 
 asked-Cell : (c : Access) (names : List ℕ) → asked_expr (Cell c) names ≡ asked_place c.array.id c.wrap c.index names ∷ asked_expr c.index names
 unfolding hidden-the_row-Access-0 hidden

@@ -1,5 +1,5 @@
 -- What the guard asks holds exactly where the guard holds.
-use Rattle.std.proofs.Common.{◌≡◌, ℕ, ◌≤◌, ◌&&◌, ◌==◌, ◌-ℤ◌, arith, IsTrue, Bool, true, false, ℤ, pos, List, [], ◌∷◌, ◌++◌, length, refl, sym, ap, ◌∙◌, if◌then◌else◌, Some, None, is_some, nat_lt}
+use Rattle.std.proofs.Common.{◌≡◌, ℕ, ◌≤◌, ◌&&◌, ◌==◌, ◌-ℤ◌, arith, Bool, true, false, ℤ, pos, List, [], ◌∷◌, ◌++◌, length, refl, sym, ap, ◌∙◌, if◌then◌else◌, Some, None, is_some, nat_lt}
 use Rattle.std.proofs.lemmas.List.{get_or_past}
 use Rattle.std.specs.declared.option.Option.{Option}
 use Rattle.nona_tree.specs.declared.trees.Loop.{Loop}
@@ -11,8 +11,8 @@ use Rattle.nona_tree.specs.declared.trees.Stmt.{Stmt, Let, Set, Fold, Put, FoldP
 use Rattle.nona_tree.specs.Memory.{Memory, scalar_at, cells_of}
 use Rattle.nona_forms.specs.Affine.{Affine, form_of}
 use Rattle.nona_forms.specs.Verdicts.{if_form}
-use Rattle.nona_forms.specs.Calm.{is_calm_expr, is_calm_cell, is_calm_stmt, is_calm_row, is_calm_all}
-use Rattle.nona_forms.specs.Guards.{ranges_of, lies_in, with_range, fits_place, fits_expr, fits_cell, fits_turns, fits_stmt, fits_row, fits_all}
+use Rattle.nona_forms.specs.Calm.{is_calm_expr, is_calm_stmt, is_calm_row, is_calm_all}
+use Rattle.nona_forms.specs.Guards.{ranges_of, with_range, fits_place, fits_expr, fits_cell, fits_turns, fits_stmt, fits_row, fits_all}
 use Rattle.nona_forms.specs.Boxes.{point, form_range}
 use Rattle.nona_guard.specs.declared.checks.Check.{Check, Turns}
 use Rattle.nona_guard.specs.Checks.{holds_check, hold_all, ranges_by}

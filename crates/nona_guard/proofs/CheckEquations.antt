@@ -1,5 +1,5 @@
 -- A check that holds others.
-use Rattle.std.proofs.Common.{◌≡◌, ℕ, ◌+◌, ◌*◌, ◌&&◌, ◌==◌, Bool, true, false, List, [], ◌∷◌, ◌++◌, refl, sym, ap, ◌∙◌, if◌then◌else◌, length}
+use Rattle.std.proofs.Common.{◌≡◌, ℕ, ◌+◌, ◌&&◌, ◌==◌, List, [], ◌∷◌, ◌++◌, refl, ap, ◌∙◌, if◌then◌else◌}
 use Rattle.std.specs.Prelude.{max}
 use Rattle.nona_num.specs.declared.range.Range.{Range}
 use Rattle.nona_tree.specs.Memory.{Memory}

@@ -1,5 +1,5 @@
 -- What a guard asks holds exactly where the guard of its loop holds.
-use Rattle.std.proofs.Common.{◌≡◌, ℕ, ◌&&◌, IsTrue, Bool, true, false, ℤ, List, [], ◌∷◌, length, refl, sym, ap, ◌∙◌, subst, if◌then◌else◌}
+use Rattle.std.proofs.Common.{◌≡◌, ℕ, Bool, true, false, ℤ, [], ◌∷◌, length, sym, ap, ◌∙◌, if◌then◌else◌}
 use Rattle.std.specs.Prelude.{int_le, nat_le}
 use Rattle.nona_tree.specs.declared.trees.Loop.{Loop}
 use Rattle.nona_tree.specs.Memory.{Memory}
@@ -8,7 +8,7 @@ use Rattle.nona_forms.specs.Calm.{is_calm, is_calm_all}
 use Rattle.nona_forms.specs.Guards.{fits_all, ranges_of, guard_of}
 use Rattle.nona_forms.specs.References.{references_all, names_of}
 use Rattle.nona_guard.specs.declared.guards.Guard.{Guard}
-use Rattle.nona_guard.specs.Checks.{hold_all, ranges_by}
+use Rattle.nona_guard.specs.Checks.{ranges_by}
 use Rattle.nona_guard.specs.Guards.{asked_by, IsGuardOf, MayBeAsked, index_bound, holds_guard}
 use Rattle.nona_guard.proofs.AskedLaws.{both_true, all_is, entry_ranges}
 use Rattle.nona_guard.proofs.Ready.{guard_ready}

@@ -1,23 +1,23 @@
 -- A guard that may be asked is ready for the walk: its arrays are there, and few of its loops lie one inside another.
-use Rattle.std.proofs.Common.{◌≡◌, ℕ, zero, suc, ◌+◌, ◌<◌, ◌≤◌, Bool, true, false, List, [], ◌∷◌, ◌++◌, length, refl, sym, ap, ◌∙◌, subst, arith, if◌then◌else◌, Some, None}
+use Rattle.std.proofs.Common.{◌≡◌, ℕ, ◌+◌, ◌≤◌, List, [], ◌∷◌, ◌++◌, length, refl, sym, subst, arith, Some, None}
 use Rattle.std.specs.Prelude.{max}
 use Rattle.std.specs.declared.option.Option.{Option}
 use Rattle.nona_tree.specs.declared.trees.Access.{Access}
 use Rattle.nona_tree.specs.declared.trees.Expr.{Expr, Number, Scalar, Cell', Len, Neg', Not', Binary', more_of-Expr, end_of-Expr}
 use Rattle.nona_tree.specs.declared.trees.Expr.TheBlock.{more_of-Access, end_of-Access}
 use Rattle.nona_tree.specs.declared.trees.Loop.{Loop}
-use Rattle.nona_tree.specs.declared.trees.Stmt.{Stmt, Let, Set, Fold, Put, FoldPut, If', While', For', For, Print, Row_of-Stmt, end_of-Stmt, more_of-Stmt, items-the_row-Stmt, items_hidden-the_row-Stmt-0}
+use Rattle.nona_tree.specs.declared.trees.Stmt.{Stmt, Let, Set, Fold, Put, FoldPut, If', While', For', For, Print, Row_of-Stmt, end_of-Stmt, more_of-Stmt}
 use Rattle.nona_tree.specs.declared.trees.Stmt.TheBlock.{hidden-the_row-Stmt-0}
 use Rattle.nona_tree.specs.Memory.{Memory}
 use Rattle.nona_tree.specs.Scope.{IsNamed, IsCellNamed, IsScoped, IsRowScoped, depth_after}
-use Rattle.nona_tree.specs.Smallness.{stmt_nesting, row_nesting, all_nesting, IsSmallLoop}
+use Rattle.nona_tree.specs.Smallness.{stmt_nesting, row_nesting, IsSmallLoop}
 use Rattle.nona_forms.specs.Affine.{Affine, form_of}
 use Rattle.nona_forms.specs.References.{names_of}
-use Rattle.nona_guard.specs.declared.checks.Check.{Check, Turns}
+use Rattle.nona_guard.specs.declared.checks.Check.{Check}
 use Rattle.nona_guard.specs.declared.guards.Guard.{Guard}
-use Rattle.nona_guard.specs.Checks.{IsThere, AreThere, check_nesting, checks_nesting}
-use Rattle.nona_guard.specs.Asked.{asked_place, asked_expr, asked_cell, asked_loop, asked, asked_row, asked_all}
-use Rattle.nona_guard.specs.Guards.{asked_by, IsGuardOf, MayBeAsked, IsReady}
+use Rattle.nona_guard.specs.Checks.{AreThere, checks_nesting}
+use Rattle.nona_guard.specs.Asked.{asked_expr, asked_cell, asked_loop, asked, asked_row, asked_all}
+use Rattle.nona_guard.specs.Guards.{asked_by, MayBeAsked, IsReady}
 use Rattle.nona_guard.proofs.AskedEquations.{asked_body}
 use Rattle.nona_guard.proofs.CheckEquations.{there-Turns, nesting-Turns}
 

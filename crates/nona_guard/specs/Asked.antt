@@ -1,10 +1,9 @@
 -- What the guard of a loop asks.
-use Rattle.std.specs.Prelude.{ℕ, Bool, true, false, if◌then◌else◌, List, [], ◌∷◌, ◌++◌, Some, None}
+use Rattle.std.specs.Prelude.{ℕ, Bool, if◌then◌else◌, List, [], ◌∷◌, ◌++◌, Some, None}
 use Rattle.std.specs.declared.option.Option.{Option}
 use Rattle.nona_tree.specs.declared.trees.Access.{Access}
-use Rattle.nona_tree.specs.declared.trees.Expr.{Expr, Number, Scalar, Cell', Len, Neg', Not', Binary', more_of-Expr, end_of-Expr}
+use Rattle.nona_tree.specs.declared.trees.Expr.{Expr, Cell', Neg', Not', Binary', more_of-Expr, end_of-Expr}
 use Rattle.nona_tree.specs.declared.trees.Expr.TheBlock.{more_of-Access, end_of-Access}
-use Rattle.nona_tree.specs.declared.trees.Loop.{Loop}
 use Rattle.nona_tree.specs.declared.trees.Stmt.{Stmt, Let, Set, Fold, Put, FoldPut, If', While', For', Print, Row_of-Stmt, end_of-Stmt, more_of-Stmt}
 use Rattle.nona_forms.specs.Affine.{Affine, form_of}
 use Rattle.nona_guard.specs.declared.checks.Check.{Check, Place, Turns}

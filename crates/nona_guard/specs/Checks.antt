@@ -1,5 +1,5 @@
 -- What the guard asks, and the ranges of scalars.
-use Rattle.std.specs.Prelude.{ℕ, Bool, true, false, ◌&&◌, ◌==◌, ◌+◌, ◌<◌, max, nat_lt, if◌then◌else◌, ℤ, pos, ◌-ℤ◌, int_le, List, [], ◌∷◌, length, Some, None}
+use Rattle.std.specs.Prelude.{ℕ, Bool, true, false, ◌&&◌, ◌==◌, ◌+◌, ◌<◌, max, nat_lt, if◌then◌else◌, pos, ◌-ℤ◌, int_le, List, [], ◌∷◌, length, Some, None}
 use Rattle.std.specs.declared.option.Option.{Option}
 use Rattle.nona_num.specs.declared.range.Range.{Range}
 use Rattle.nona_tree.specs.Memory.{Memory, scalar_at, cells_of}

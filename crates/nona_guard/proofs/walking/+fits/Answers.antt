@@ -1,9 +1,7 @@
-use Rattle.std.proofs.Common.{rules, ◌≡◌, ◌≤◌, ◌+◌, ◌^◌, ◌++◌, ◌∷◌, [], List, ap, sym, subst, ◌∙◌, arith, Some, None, length}
-use Rattle.std.specs.Prelude.{All}
-use Rattle.nona_affine.specs.Small.{IsSmallRange}
+use Rattle.std.proofs.Common.{rules, List, ap, ◌∙◌, Some, length}
 use Rattle.nona_guard.specs.declared.bounds.Bound.{Bound}
 use Rattle.nona_guard.specs.declared.checks.Check.{Check, the_lemmas}
-use Rattle.nona_guard.specs.Checks.{holds_check, hold_all, ranges_by, AreThere, checks_nesting}
+use Rattle.nona_guard.specs.Checks.{hold_all, ranges_by}
 use Rattle.nona_guard.proofs.EntryLaws.{holds_none, holds_empty, holds_walked, there_in, room_in, small_in}
 use Rattle.nona_guard.proofs.walking.+fits.Goals as goal
 
