@@ -109,7 +109,8 @@ fn push_put(
     around: &Around,
     spots: &mut Vec<Spot>,
 ) -> Result<(), AllocError>
-    ensures { OnOk result (spots.new.items ≡ spots.old.items ++ spots_in names.now around.now (written_references access.now ++ expr_references value.now)) }
+    ensures { OnOk result (spots.new.items
+        ≡ spots.old.items ++ spots_in names.now around.now (written_references access.now ++ expr_references value.now)) }
 {
     push_written(alloc, access, names, around, spots)?;
     push_expr(alloc, value, names, around, spots)?;

@@ -29,7 +29,8 @@ ghost use Rattle.nona_forms.specs.declared.shapes.Spot.{Spot};
 /// form depends on nothing of the names but which scalars are among them.
 pub fn form_is_value()
     ensures members { (e : Expr) (names others : List ℕ) → ((id : ℕ) → among id names ≡ among id others) → form_of e names ≡ form_of e others }
-    ensures value { (e : Expr) (names : List ℕ) (m : Memory) (f : Affine) → form_of e names ≡ Some f → IsI64Expr e → AreI64 m → IsI64 (form_at (scalar_at m) f)
+    ensures value { (e : Expr) (names : List ℕ) (m : Memory) (f : Affine) → form_of e names ≡ Some f
+        → IsI64Expr e → AreI64 m → IsI64 (form_at (scalar_at m) f)
         → value_of e m ≡ Ok (form_at (scalar_at m) f) }
 {}
 
@@ -61,7 +62,8 @@ pub fn verdict_is_first_answer()
 pub fn pair_laws()
     ensures gcd { (a b : ℕ) → IsGcd a b (gcd_of a b) }
     ensures multiples { (g : ℕ) (q : ℤ) → divides g (q *ℤ pos g) ≡ true }
-    ensures reached { (fixed : Option (ℤ × ℤ)) (a d : ℕ) (low high : ℤ) → 0 < a → 0 < d → low ≤ℤ pos (a * d) → pos (a * d) ≤ℤ high → is_distance fixed d ≡ true
+    ensures reached { (fixed : Option (ℤ × ℤ)) (a d : ℕ) (low high : ℤ) → 0 < a → 0 < d
+        → low ≤ℤ pos (a * d) → pos (a * d) ≤ℤ high → is_distance fixed d ≡ true
         → has_multiple fixed a low high ≡ true }
     ensures reaches { (fixed : Option (ℤ × ℤ)) (a : ℕ) (low high : ℤ) → 0 < a → has_multiple fixed a low high ≡ true
         → (d : ℕ) × (0 < d) × (low ≤ℤ pos (a * d)) × (pos (a * d) ≤ℤ high) × (is_distance fixed d ≡ true) }

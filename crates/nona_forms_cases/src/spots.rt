@@ -110,7 +110,7 @@ fn a_copy_of_an_inner_loop(rt: HostRuntime) -> Result<(), Fail> {
         Some(seen) => {
             for spot in &seen.spots {
                 for l in spot.inner.as_slice() {
-                    assert_same(&rt, alloc, l, &l.copy(alloc)?)?;
+                    assert_same(&rt, alloc, l, &l.copy()?)?;
                 }
             }
         }

@@ -36,7 +36,8 @@ fn push_place(
     names: &Names,
     checks: &mut Items<Check>,
 ) -> Result<(), AllocError>
-    ensures { OnOk result (checks.new ≡ checks.old ++ asked_place access.now.array.id access.now.wrap access.now.index (inner.now ++ names.now) ∷ []) }
+    ensures { OnOk result (checks.new
+        ≡ checks.old ++ asked_place access.now.array.id access.now.wrap access.now.index (inner.now ++ names.now) ∷ []) }
 {
     let form = place_form(alloc, access, inner, names)?;
     checks.push(Check::Place {
@@ -106,7 +107,8 @@ fn push_put(
     names: &Names,
     checks: &mut Items<Check>,
 ) -> Result<(), AllocError>
-    ensures { OnOk result (checks.new ≡ checks.old ++ (asked_cell access.now (inner.now ++ names.now) ++ asked_expr value.now (inner.now ++ names.now))) }
+    ensures { OnOk result (checks.new
+        ≡ checks.old ++ (asked_cell access.now (inner.now ++ names.now) ++ asked_expr value.now (inner.now ++ names.now))) }
 {
     push_cell(alloc, access, inner, names, checks)?;
     push_expr(alloc, value, inner, names, checks)?;

@@ -171,7 +171,8 @@ pub fn entry(
 ) -> Option<Option<Range>>
     requires index { index ≤ length store.now.scalars }
     requires small { All (λ (b : Bound). IsSmallRange (2 ^ 64) b.range) bounds.now }
-    ensures entry { result ≡ entry_of (form_range (ranges_by index store.now bounds.now) low.now) (form_range (ranges_by index store.now bounds.now) high.now) turns }
+    ensures entry { result ≡ entry_of (form_range (ranges_by index store.now bounds.now) low.now)
+        (form_range (ranges_by index store.now bounds.now) high.now) turns }
     ensures small { (r : Range) → result ≡ Some (Some r) → IsSmallRange (2 ^ 64) r }
 {
     entry_between(
