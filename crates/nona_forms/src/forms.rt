@@ -10,7 +10,7 @@ use crate::limits::{COEFFICIENT, CONSTANT, TERMS};
 use crate::terms::Term;
 use std::alloc::{AllocError, Global};
 use std::marker::Model;
-use std::rc::Rc;
+use std::sync::Arc;
 
 /// An affine form: a constant, and whole numbers of scalars.
 ///
@@ -20,7 +20,7 @@ use std::rc::Rc;
 #[derive(Debug, Drop)]
 pub struct Form {
     constant: i128,
-    terms: Rc<Vec<Term>>,
+    terms: Arc<Vec<Term>>,
 }
 
 impl Model for Form {
@@ -73,7 +73,7 @@ impl Form {
         ensures { IfOk result (λ o. o ≡ if_bounded (record { constant = constant; terms = terms.items })) }
     {
         if are_bounded(constant, &terms) {
-            let terms = Rc::new(alloc, terms)?;
+            let terms = Arc::new(alloc, terms)?;
             Ok(Some(Form { constant, terms }))
         } else {
             Ok(None)
@@ -86,7 +86,7 @@ impl Form {
         requires { IsTrue (is_bounded (record { constant = constant; terms = terms.items })) }
         ensures { IfOk result (λ f. f ≡ record { constant = constant; terms = terms.items }) }
     {
-        let terms = Rc::new(alloc, terms)?;
+        let terms = Arc::new(alloc, terms)?;
         Ok(Form { constant, terms })
     }
 
