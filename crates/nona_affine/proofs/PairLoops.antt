@@ -1,4 +1,4 @@
--- Loops of the pair test.
+-- Loops of the dependence test.
 use Rattle.std.proofs.Common.{◌≡◌, ℕ, suc, ◌+◌, ◌^◌, ◌<◌, ◌≤◌, ◌==◌, IsTrue, Bool, true, false, ℤ, ◌+ℤ◌, List, ◌∷◌, length, drop, refl, sym, ap, ◌∙◌, arith, if◌then◌else◌, nat_lt}
 use Rattle.std.proofs.Math.Seq.{drop-cons}
 use Rattle.std.proofs.Math.IntN.{+ℤ_assoc}

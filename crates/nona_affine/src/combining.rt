@@ -17,7 +17,8 @@ fn times(alloc: Global, factor: i64, form: &Form) -> Result<Option<Form>, AllocE
 {
     let terms = form.terms();
     if can_scale(factor, terms) {
-        Ok(Form::within(scaled_constant(factor, form), scale(alloc, factor, terms)?))
+        let scaled = scale(alloc, factor, terms)?;
+        Form::within(alloc, scaled_constant(factor, form), scaled)
     } else {
         Ok(None)
     }
@@ -42,7 +43,7 @@ fn plus(alloc: Global, left: &Form, right: &Form) -> Result<Option<Form>, AllocE
     ensures { IfOk result (λ o. o ≡ if_bounded (sum_form left.now right.now)) }
 {
     let terms = merge(alloc, left.terms(), right.terms())?;
-    Ok(Form::within(summed_constant(left, right), terms))
+    Form::within(alloc, summed_constant(left, right), terms)
 }
 
 /// A form's constant times -1.
@@ -68,7 +69,7 @@ fn opposite(alloc: Global, form: &Form) -> Result<Form, AllocError>
     ensures { IfOk result (λ f. f ≡ times_form (negsuc 0) form.now) }
 {
     let terms = opposite_terms(alloc, form)?;
-    Ok(Form::of(opposite_constant(form), terms))
+    Form::of(alloc, opposite_constant(form), terms)
 }
 
 /// A form less another one, if it is within bounds.
@@ -124,7 +125,7 @@ fn of_scalar(alloc: Global, id: u32) -> Result<Form, AllocError>
 {
     let mut terms = Vec::new(alloc);
     terms.push(Term { id, coefficient: 1 })?;
-    Ok(Form::of(0, terms))
+    Form::of(alloc, 0, terms)
 }
 
 /// A form, if there is one, times -1, if that is within bounds.

@@ -13,8 +13,9 @@ mod pairs;
 mod ranges;
 mod terms;
 
-pub use names::Names;
-pub use of_expr::form;
+pub use boxes::add_times;
+pub use names::{Ids, Names};
+pub use of_expr::{form, form_inside};
 pub use of_loop::{loop_names, shape, spots};
 pub use pairs::apart;
 pub use ranges::{are_bound, range};

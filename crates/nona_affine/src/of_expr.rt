@@ -20,7 +20,7 @@ pub fn form_inside(
     ensures { IfOk result (λ o. o ≡ form_of e.now (inner.now ++ names.now)) }
 {
     match e {
-        Expr::Number(number) => Ok(Form::within(*number as i128, Vec::new(alloc))),
+        Expr::Number(number) => Form::within(alloc, *number as i128, Vec::new(alloc)),
         Expr::Scalar(x) => scalar(alloc, x.id, inner, names),
         Expr::Neg(part) => {
             let inside = form_inside(alloc, part.get(), inner, names)?;

@@ -17,13 +17,13 @@ use nona_tree::{Access, Expr, Loop, Stmt};
 use sqlite_items::Items;
 use std::alloc::{AllocError, Global};
 
-/// Equal inner loops, in the same order.
+/// Equal inner loops, in the same order, which share their forms with these.
 fn copy_loops(alloc: Global, loops: &[InnerLoop]) -> Result<Items<InnerLoop>, AllocError>
     ensures { IfOk result (λ copies. copies ≡ loops.now) }
 {
     let mut copies = Items::new(alloc);
     for l in loops {
-        copies.push(l.copy(alloc)?)?;
+        copies.push(l.copy()?)?;
     }
     Ok(copies)
 }
@@ -109,7 +109,8 @@ fn push_put(
     around: &Around,
     spots: &mut Vec<Spot>,
 ) -> Result<(), AllocError>
-    ensures { OnOk result (spots.new.items ≡ spots.old.items ++ spots_in names.now around.now (written_references access.now ++ expr_references value.now)) }
+    ensures { OnOk result (spots.new.items
+        ≡ spots.old.items ++ spots_in names.now around.now (written_references access.now ++ expr_references value.now)) }
 {
     push_written(alloc, access, names, around, spots)?;
     push_expr(alloc, value, names, around, spots)?;

@@ -4,6 +4,7 @@ pub mod Division
 pub mod InBoxes
 pub mod Differing
 pub mod Named
+pub mod Ordered
 pub mod Exact
 pub mod Separate
 pub mod Sound
@@ -11,3 +12,8 @@ pub mod Meanings
 pub mod Cascade
 pub mod Steadier
 pub mod Touching
+pub mod Spared
+pub mod Fitting
+pub mod FitsDone
+pub mod GuardDone
+pub mod GuardLies

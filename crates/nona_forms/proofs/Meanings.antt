@@ -1,4 +1,4 @@
--- What the arithmetic tests of the pair test decide.
+-- What the arithmetic tests of the dependence test decide.
 use Rattle.std.proofs.Common.{◌≡◌, ℕ, ◌≤◌, ◌<◌, ◌*◌, true, ℤ, pos, negsuc, ◌≤ℤ◌, arith}
 use Rattle.std.proofs.lemmas.Int.{ints}
 use Rattle.std.proofs.lemmas.Grind.{div_ceil_times}

@@ -86,7 +86,7 @@ steady_at : (k : _) (row : Row_of-Stmt k) (ids : List ℕ) → IsRowSteady row i
 steady_at k end_of-Stmt ids h = tt
 steady_at k (more_of-Stmt s rest) ids h = (h.0, steady_at _ rest ids h.1)
 
-row_stays : {k : _} (row : Row_of-Stmt k) (ids : List ℕ) (id : ℕ) → Contains ids id → IsRowSteady row ids → (n : ℕ) (m : Memory) → id < length m.scalars → scalar_at (run_row row n m).store id ≡ scalar_at m id
+pub row_stays : {k : _} (row : Row_of-Stmt k) (ids : List ℕ) (id : ℕ) → Contains ids id → IsRowSteady row ids → (n : ℕ) (m : Memory) → id < length m.scalars → scalar_at (run_row row n m).store id ≡ scalar_at m id
 row_stays row ids id c steady n m there =
     ap (λ (r : Ran). scalar_at r.store id) (rows_at _ row n m) ∙ all_unassigned_stays (items-the_row-Stmt _ row) ids id c (steady_at _ row ids steady) n m there
 

@@ -1,6 +1,7 @@
 -- Affine forms: a constant, and a whole number of each of some scalars.
-use Rattle.std.specs.Prelude.{ℕ, Bool, true, false, ◌&&◌, ◌==◌, if◌then◌else◌, nat_lt, nat_le, ℤ, pos, negsuc, ◌+ℤ◌, ◌*ℤ◌, neg_ℤ, int_le, List, [], ◌∷◌, length, Some, None}
-use Rattle.std.specs.List.{list_all}
+use Rattle.std.specs.Prelude.{◌≡◌, ◌≢◌, ℕ, Bool, true, false, ◌&&◌, ◌==◌, if◌then◌else◌, nat_lt, nat_le, ℤ, pos, negsuc, ◌+ℤ◌, ◌*ℤ◌, neg_ℤ, int_le, List, [], ◌∷◌, map, length, Some, None}
+use Rattle.std.specs.List.{list_all, AllByRecursion}
+use Rattle.std.specs.List.Sorted.{IsStrictlyIncreasing}
 use Rattle.std.specs.declared.option.Option.{Option}
 use Rattle.nona_tree.specs.declared.trees.Op.{Op}
 use Rattle.nona_tree.specs.declared.trees.Op.TheVariants as op
@@ -9,7 +10,7 @@ use Rattle.nona_tree.specs.Value.{is_zero}
 use Rattle.nona_forms.specs.declared.limits.TheConstants.{TERMS, COEFFICIENT, CONSTANT}
 use Rattle.nona_forms.specs.declared.terms.Term.{Term}
 
--- a constant, and the terms, each a whole number of a scalar, in order of id and none of them 0
+-- a constant, and the terms, each a whole number of a scalar
 pub record Affine : Type 0 where
   pub constant : ℤ
   pub terms : List Term
@@ -76,6 +77,12 @@ is_constant c = int_le (neg_ℤ CONSTANT) c && int_le c CONSTANT
 abbrev pub is_bounded : Affine → Bool
 is_bounded f =
     is_constant f.constant && (nat_le (length f.terms) TERMS && list_all (λ t. is_coefficient t.coefficient) f.terms)
+
+-- within bounds, with the terms in order of id, each id once, and none of them 0
+pub record KeepsOrder (f : Affine) : Type 0 where
+  pub bounded : is_bounded f ≡ true
+  pub rising : IsStrictlyIncreasing (map (λ t. t.id) f.terms)
+  pub used : AllByRecursion (λ t. t.coefficient ≢ pos 0) f.terms
 
 -- a form within bounds
 abbrev pub if_bounded : Affine → Option Affine

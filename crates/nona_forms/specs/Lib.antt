@@ -3,6 +3,7 @@ pub mod References
 pub mod Boxes
 pub mod Verdicts
 pub mod Separate
+pub mod Guards
 pub mod Calm
 pub mod Rules
 pub mod Touched

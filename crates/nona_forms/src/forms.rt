@@ -10,15 +10,17 @@ use crate::limits::{COEFFICIENT, CONSTANT, TERMS};
 use crate::terms::Term;
 use std::alloc::{AllocError, Global};
 use std::marker::Model;
+use std::sync::Arc;
 
-/// An affine form: a constant, and whole numbers of scalars in order of their ids, none of them 0.
+/// An affine form: a constant, and whole numbers of scalars.
 ///
 /// The absolute value of the constant is at most `CONSTANT`, that of each coefficient at most `COEFFICIENT`, and there are
-/// at most `TERMS` terms.
+/// at most `TERMS` terms. The form of an expression has its terms in order of id, each id once and none of them 0
+/// (`form_is_kept`). Equal forms may share their terms, so that a copy takes constant time.
 #[derive(Debug, Drop)]
 pub struct Form {
     constant: i128,
-    terms: Vec<Term>,
+    terms: Arc<Vec<Term>>,
 }
 
 impl Model for Form {
@@ -27,9 +29,9 @@ impl Model for Form {
 
     ghost Value = { Affine };
 
-    ghost view = { λ f. record { constant = f.constant; terms = f.terms.items } };
+    ghost view = { λ f. record { constant = f.constant; terms = f.terms.value.items } };
 
-    ghost invariant = { λ f. IsTrue (is_bounded (record { constant = f.constant; terms = f.terms.items })) };
+    ghost invariant = { λ f. IsTrue (is_bounded (record { constant = f.constant; terms = f.terms.value.items })) };
 }
 
 /// Whether a number may be the coefficient of a form.
@@ -61,32 +63,41 @@ fn are_bounded(constant: i128, terms: &[Term]) -> bool
 }
 
 impl Form {
-    /// The form with this constant and these terms, where they are within a form's bounds; else none.
-    pub fn within(constant: i128, terms: Vec<Term>) -> Option<Form>
-        ensures { result ≡ if_bounded (record { constant = constant; terms = terms.items }) }
+    /// The form with this constant and these terms, where they are within a form's bounds; else none. The one error is that
+    /// memory ran out.
+    pub fn within(
+        alloc: Global,
+        constant: i128,
+        terms: Vec<Term>,
+    ) -> Result<Option<Form>, AllocError>
+        ensures { IfOk result (λ o. o ≡ if_bounded (record { constant = constant; terms = terms.items })) }
     {
         if are_bounded(constant, &terms) {
-            Some(Form { constant, terms })
+            let terms = Arc::new(alloc, terms)?;
+            Ok(Some(Form { constant, terms }))
         } else {
-            None
+            Ok(None)
         }
     }
 
-    /// The form with this constant and these terms, which have to be within a form's bounds.
-    pub fn of(constant: i128, terms: Vec<Term>) -> Form
+    /// The form with this constant and these terms, which have to be within a form's bounds. The one error is that memory ran
+    /// out.
+    pub fn of(alloc: Global, constant: i128, terms: Vec<Term>) -> Result<Form, AllocError>
         requires { IsTrue (is_bounded (record { constant = constant; terms = terms.items })) }
-        ensures { result ≡ record { constant = constant; terms = terms.items } }
+        ensures { IfOk result (λ f. f ≡ record { constant = constant; terms = terms.items }) }
     {
-        Form { constant, terms }
+        let terms = Arc::new(alloc, terms)?;
+        Ok(Form { constant, terms })
     }
 
-    /// An equal form. The one error is that memory ran out.
-    pub fn copy(&self, alloc: Global) -> Result<Form, AllocError>
+    /// An equal form, which shares its terms with this one: it takes constant time. The one error is that it has too many
+    /// copies.
+    pub fn copy(&self) -> Result<Form, AllocError>
         ensures { IfOk result (λ f. f ≡ self.now) }
     {
         Ok(Form {
             constant: self.constant,
-            terms: Vec::from_slice(alloc, &self.terms)?,
+            terms: self.terms.clone()?,
         })
     }
 
@@ -98,13 +109,13 @@ impl Form {
         self.constant
     }
 
-    /// The terms, in order of id: at most `TERMS`, each coefficient at most `COEFFICIENT` from 0.
+    /// The terms: at most `TERMS`, each coefficient at most `COEFFICIENT` from 0.
     pub fn terms(&self) -> &[Term]
         ensures terms { result.now ≡ self.now.terms }
         ensures within { All (λ (t : Term). IsTrue (is_coefficient t.coefficient)) result.now }
         ensures few { length result.now ≤ limits.TERMS }
     {
-        &self.terms
+        self.terms.as_ref().as_slice()
     }
 
     /// Whether it keeps a form's bounds, which is always so. It does nothing when called.

@@ -4,7 +4,7 @@ ghost use Rattle.std.specs.Prelude.{◌≡◌, IfOk};
 
 use crate::forms::Form;
 use sqlite_items::Items;
-use std::alloc::{AllocError, Global};
+use std::alloc::AllocError;
 
 /// An inner loop around an access, with the forms of its bounds where they have one.
 #[derive(Debug, Drop)]
@@ -49,25 +49,26 @@ pub enum Verdict {
     Maybe,
 }
 
-/// An equal form, where there is one. The one error is that memory ran out.
-fn copy_form(form: &Option<Form>, alloc: Global) -> Result<Option<Form>, AllocError>
+/// An equal form, where there is one, in constant time.
+fn copy_form(form: &Option<Form>) -> Result<Option<Form>, AllocError>
     ensures { IfOk result (λ f. f ≡ form.now) }
 {
     match form {
         None => Ok(None),
-        Some(form) => Ok(Some(form.copy(alloc)?)),
+        Some(form) => Ok(Some(form.copy()?)),
     }
 }
 
 impl InnerLoop {
-    /// An equal inner loop. The one error is that memory ran out.
-    pub fn copy(&self, alloc: Global) -> Result<InnerLoop, AllocError>
+    /// An equal inner loop, which shares its forms with this one: it takes constant time. The one error is that it has too many
+    /// copies.
+    pub fn copy(&self) -> Result<InnerLoop, AllocError>
         ensures { IfOk result (λ l. l ≡ self.now) }
     {
         Ok(InnerLoop {
             id: self.id,
-            low: copy_form(&self.low, alloc)?,
-            high: copy_form(&self.high, alloc)?,
+            low: copy_form(&self.low)?,
+            high: copy_form(&self.high)?,
         })
     }
 }

@@ -3,6 +3,6 @@
 pub struct Term {
     /// The scalar's id.
     pub id: u32,
-    /// How often it is taken. In a form it isn't 0, and its absolute value is at most `COEFFICIENT`.
+    /// How often it is taken. In a form its absolute value is at most `COEFFICIENT`; in that of an expression it isn't 0.
     pub coefficient: i64,
 }

@@ -1,0 +1,10 @@
+pub mod Leading
+pub mod Lists
+pub mod Choosing
+pub mod Held
+pub mod Ready
+pub mod LawfulStages
+pub mod BetweenUnits
+pub mod PlanLaws
+pub mod Examples
+pub mod Cases
