@@ -11,3 +11,5 @@ pub mod Marked
 pub mod Main
 pub mod MainLeft
 pub mod MainPrints
+pub mod Worked
+pub mod Found

@@ -7,6 +7,7 @@
 #![tactic(auto)]
 
 mod answers;
+mod finding;
 mod frame;
 mod instr;
 mod limits;
