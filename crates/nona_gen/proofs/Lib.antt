@@ -1,4 +1,6 @@
 pub mod CodeEquations
+pub mod MainEquations
+pub mod MainPlain
 pub mod Fewer
 pub mod Fits
 pub mod Emitting
@@ -9,9 +11,14 @@ pub mod Opened
 pub mod Steady
 pub mod Turning
 pub mod Indices
+pub mod Claims
+pub mod Stopping
 pub mod Parts
 pub mod Loops
+pub mod Holding
 pub mod Runs
+pub mod MainRuns
+pub mod MainStands
 pub mod Standing
 pub mod Marks
 pub mod Keeping

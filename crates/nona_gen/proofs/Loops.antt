@@ -9,33 +9,33 @@ use Rattle.std.specs.Int.{int_gap, w64}
 use Rattle.nona_num.specs.Folds.{join_of}
 use Rattle.nona_tree.specs.declared.trees.Op.TheVariants as op
 use Rattle.nona_tree.specs.declared.trees.Expr.{Expr}
-use Rattle.nona_tree.specs.declared.trees.Stmt.{Stmt, Row_of-Stmt}
+use Rattle.nona_tree.specs.declared.trees.Stmt.{Row_of-Stmt}
 use Rattle.nona_tree.specs.Memory.{Memory, scalar_at, declare, assign, cut_to}
 use Rattle.nona_tree.specs.Value.{apply, from_test, is_zero, value_of}
 use Rattle.nona_tree.specs.Numbers.{IsI64, IsI64Row}
 use Rattle.nona_tree.specs.Run.{Ran, done, starved, then_do, block, turn, while_turns, for_turns, run_row}
 use Rattle.nona_tree.specs.Scope.{IsNamed, IsRowSteady}
 use Rattle.nona_tree.specs.Beside.{on_done, while_gives, first_give}
-use Rattle.nona_tree.specs.Deeds.{Deed, value_deeds, deeds_row}
 use Rattle.nona_code.specs.declared.instr.Instr.{Instr}
 use Rattle.nona_code.specs.declared.instr.Instr.TheVariants as instr
-use Rattle.nona_code.specs.Machine.{goes, open_at, where_so, first_hidden}
+use Rattle.nona_code.specs.Machine.{goes, opens, open_at, where_so, first_hidden}
 use Rattle.nona_code.proofs.Placed.{Stands, front, back, open_before}
 use Rattle.nona_code.proofs.Traces.{EndsIn, Comes, most, most_more, wider_most, one, on, on_end_in, wider_in, wider_end_in}
-use Rattle.nona_gen.specs.Code.{flip_code, lets_row, leave_code, block_code, while_code, next_code, turns_code, high_of, row_code}
+use Rattle.nona_gen.specs.Code.{flip_code, lets_row, leave_code, block_code, while_code, next_code, turns_code, high_of}
 use Rattle.nona_gen.specs.Fit.{IsFitExpr}
 use Rattle.nona_gen.proofs.Values.{at, answered, so, loaded, test_zero, below_or_not}
 use Rattle.nona_gen.proofs.Steady.{row_steady}
 use Rattle.nona_gen.proofs.Indices.{more_turns, some_turns, counter_is, if_not, declared_good, index_at, index_set, index_dropped, index_kept}
-use Rattle.nona_gen.proofs.Lands.{left, cut_twice, runs_cut, runs_branch, same_refl, same_set, runs_turn, runs_either, kept_refl, Around, RunsIn, lands, runs_wider, runs_on, runs_value, runs_value_quiet, runs_if}
-use Rattle.nona_gen.proofs.Opened.{leave_opens, block_opens, row_opens, Good, row_depth}
-use Rattle.nona_gen.proofs.Parts.{Fine, fine_leaves, fine_at, around, zero_step, turned, out_of_turns, block_good, step_open, flipped_here, runs_as, turn_good, hidden_loaded}
+use Rattle.nona_gen.proofs.Lands.{left, cut_twice, same_refl, same_set, kept_refl, Around}
+use Rattle.nona_gen.proofs.Claims.{Claims, claim_as, claim_lands, claim_starved, claim_quiet, claim_if, claim_either, claim_branch, claim_turn, claim_cut}
+use Rattle.nona_gen.proofs.Opened.{leave_opens, block_opens, Good, row_depth}
+use Rattle.nona_gen.proofs.Parts.{Fine, fine_leaves, fine_at, around, zero_step, turned, out_of_turns, block_good, step_open, flipped_here, turn_good, hidden_loaded}
 
-module _ (code : List Instr) (n : ℕ) where
-  module _ (test : Expr) (depth p a L A keep : ℕ) (st : List ℤ) {i : _} (body : Row_of-Stmt i) where
-    -- a while
+module _ (code : List Instr) (n : ℕ) {B : Type 0} (claims : Claims code n B) where
+  -- a while, whose body has this code and gives this
+  module _ (test : Expr) (depth p a L A keep : ℕ) (st : List ℤ) (rows : ℕ → List Instr) {i : _} (body : Row_of-Stmt i) (given : Memory → List B) where
     abbrev whole_body : ℕ → List Instr
-    whole_body = block_code (row_code body (depth + 1)) (lets_row body)
+    whole_body = block_code rows (lets_row body)
 
     -- the place of its test
     abbrev asks : ℕ
@@ -55,8 +55,8 @@ module _ (code : List Instr) (n : ℕ) where
       pub open_turn : open_at code (p + 2) ≡ open_at code asks
       pub open_body : open_at code (p + 3) ≡ open_at code asks
 
-    pub whiles : Stands code p (while_code p depth a (flip_code test) whole_body) → Whiles
-    whiles has =
+    pub whiles : ((t b : ℕ) → opens (rows t) b ≡ b - lets_row body) → Stands code p (while_code p depth a (flip_code test) whole_body) → Whiles
+    whiles opened has =
         let ct = flip_code test in
         let z = instr.Zero (p + 2) ∷ [] in
         let b = p + 3 in
@@ -67,7 +67,7 @@ module _ (code : List Instr) (n : ℕ) where
         let has_b : Stands code b (whole_body b ++ (ct ++ z)) = subst (λ q. Stands code q (whole_body b ++ (ct ++ z))) e3 has.1.1.1 in
         let has_w = front code b (whole_body b) (ct ++ z) has_b in
         let has_c = back code b (whole_body b) (ct ++ z) has_b in
-        let o_body : open_at code b ≡ open_at code asks = open_before code b (whole_body b) has_w ∙ block_opens (row_code body (depth + 1)) (lets_row body) b _ (λ c. row_opens body (depth + 1) b c) in
+        let o_body : open_at code b ≡ open_at code asks = open_before code b (whole_body b) has_w ∙ block_opens rows (lets_row body) b _ (λ c. opened b c) in
         record {
           turns = turn_is;
           has_body = has_w;
@@ -77,13 +77,13 @@ module _ (code : List Instr) (n : ℕ) where
           open_body = o_body;
         }
 
-    pub while_loop : IsFitExpr test → IsNamed test L A → IsI64Row body → depth < 256 → Stands code p (while_code p depth a (flip_code test) whole_body)
-        → ((h : List ℤ) (k : List ℕ) (m : Memory) → Fine code n (p + 3) L A keep h k m → RunsIn code n (most n (length (whole_body (p + 3)))) (at (p + 3) st h k m) (around code n (depth + 1) st asks keep) (deeds_row body n m) (block (run_row body n) m))
+    pub while_loop : ((t b : ℕ) → opens (rows t) b ≡ b - lets_row body) → IsFitExpr test → IsNamed test L A → IsI64Row body → depth < 256 → Stands code p (while_code p depth a (flip_code test) whole_body)
+        → ((h : List ℤ) (k : List ℕ) (m : Memory) → Fine code n (p + 3) L A keep h k m → claims.claim (most n (length (whole_body (p + 3)))) (at (p + 3) st h k m) (around code n (depth + 1) st asks keep) (given m) (block (run_row body n) m))
         → (j : ℕ) (h : List ℤ) (k : List ℕ) (m : Memory) → Fine code n asks L A keep h k m → slice_index_or k depth 0 + j ≡ n
-        → RunsIn code n ((j + 1) * most n while_steps) (at asks st h k m) (around code n depth st (answers + 1) keep)
-        (while_gives (value_of test) (value_deeds test) (block (run_row body n)) (deeds_row body n) j m) (while_turns a (value_of test) (block (run_row body n)) j m)
-    while_loop fit named t few has runs zero h k m f left =
-        let w = whiles has in
+        → claims.claim ((j + 1) * most n while_steps) (at asks st h k m) (around code n depth st (answers + 1) keep)
+        (while_gives (value_of test) (claims.noted test) (block (run_row body n)) given j m) (while_turns a (value_of test) (block (run_row body n)) j m)
+    while_loop opened fit named t few has runs zero h k m f left =
+        let w = whiles opened has in
         let lt = length (flip_code test) in
         let q = answers in
         let s = at asks st h k m in
@@ -92,15 +92,15 @@ module _ (code : List Instr) (n : ℕ) where
         let f_t = fine_at code n asks (p + 2) L A keep h k m w.open_turn f in
         let two : most n 1 + most n 1 ≤ most n 2 = most_more n 1 1 in
         let wide : most n lt + most n 2 ≤ (0 + 1) * most n while_steps = omega (arith, most_more n lt 2, wider_most n (lt + 2) while_steps (omega arith)) in
-        runs_wider code n (most n lt + most n 2) ((0 + 1) * most n while_steps) s x _ _ wide
-        (runs_value_quiet code n lt (most n 2) s x (value_of test m) m (λ v. if is_zero v then done m else starved a m) (value_deeds test m) (λ v. at q (from_test (is_zero v) ∷ st) h k m)
+        claims.wider (most n lt + most n 2) ((0 + 1) * most n while_steps) s x _ _ wide
+        (claim_quiet code n claims lt (most n 2) s x test m (λ v. if is_zero v then done m else starved a m) (λ v. at q (from_test (is_zero v) ∷ st) h k m)
         (flipped_here code n test asks L A keep st h k m f fit named w.has_test)
         (λ v ok. kept_refl depth s (at q (from_test (is_zero v) ∷ st) h k m) refl refl)
-        (λ v ok. let u = from_test (is_zero v) in runs_either code n (most n 2) (at q (u ∷ st) h k m) x (is_zero v) [] (done m) (starved a m)
-        (λ c. lands code n (most n 2) (at q (u ∷ st) h k m) x [] h k m (kept_refl depth (at q (u ∷ st) h k m) (at (q + 1) st h k m) refl refl) (wider_in code n (most n 1) (most n 2) _ _ [] (wider_most n 1 2 (omega arith)) (zero_step code n q (p + 2) st h k m u false w.zero_is (test_zero (is_zero v) ∙ ap not c))))
-        (λ c. wider_end_in code n (most n 1 + most n 1) (most n 2) (at q (u ∷ st) h k m) (starved a (cut_to keep m)) [] two (on_end_in code n (most n 1) (most n 1) _ (at (p + 2) st h k m) _ [] [] (zero_step code n q (p + 2) st h k m u true w.zero_is (test_zero (is_zero v) ∙ ap not c)) (out_of_turns code n (p + 2) depth a L A keep st h k m f_t below (omega (arith, left)) w.turns)))))
-    while_loop fit named t few has runs (suc j) h k m f left =
-        let w = whiles has in
+        (λ v ok. let u = from_test (is_zero v) in claim_either code n claims (most n 2) (at q (u ∷ st) h k m) x (is_zero v) [] (done m) (starved a m)
+        (λ c. claim_lands code n claims (most n 2) (at q (u ∷ st) h k m) x h k m (kept_refl depth (at q (u ∷ st) h k m) (at (q + 1) st h k m) refl refl) (wider_in code n (most n 1) (most n 2) _ _ [] (wider_most n 1 2 (omega arith)) (zero_step code n q (p + 2) st h k m u false w.zero_is (test_zero (is_zero v) ∙ ap not c))))
+        (λ c. claim_starved code n claims (most n 2) (at q (u ∷ st) h k m) x a m (wider_end_in code n (most n 1 + most n 1) (most n 2) (at q (u ∷ st) h k m) (starved a (cut_to keep m)) [] two (on_end_in code n (most n 1) (most n 1) _ (at (p + 2) st h k m) _ [] [] (zero_step code n q (p + 2) st h k m u true w.zero_is (test_zero (is_zero v) ∙ ap not c)) (out_of_turns code n (p + 2) depth a L A keep st h k m f_t below (omega (arith, left)) w.turns))))))
+    while_loop opened fit named t few has runs (suc j) h k m f left =
+        let w = whiles opened has in
         let lt = length (flip_code test) in
         let lb = length (whole_body (p + 3)) in
         let q = answers in
@@ -117,28 +117,26 @@ module _ (code : List Instr) (n : ℕ) where
         let s_b = at (p + 3) st h k' m in
         let body_run = block (run_row body n) in
         let later = while_turns a (value_of test) body_run j in
-        let gives = while_gives (value_of test) (value_deeds test) body_run (deeds_row body n) j in
+        let gives = while_gives (value_of test) (claims.noted test) body_run given j in
         let tail = most n lb + (j + 1) * M in
         let wide : most n lt + (most n 1 + (most n 1 + tail)) ≤ (suc j + 1) * M = omega (arith, more_turns j M, most_more n 1 1, most_more n 2 lb, most_more n lt (2 + lb)) in
         let shut : most n 1 ≤ most n 1 + (most n 1 + tail) = omega arith in
         let one_turn : Comes code n 1 (at (p + 2) st h k m) [] s_b = subst (λ z. Comes code n 1 (at (p + 2) st h k m) [] (at z st h k' m)) e3 (turned code n (p + 2) depth a L A keep st h k m f_t below (omega (arith, left)) w.turns) in
-        runs_wider code n (most n lt + (most n 1 + (most n 1 + tail))) ((suc j + 1) * M) s x _ _ wide
-        (runs_value code n lt (most n 1 + (most n 1 + tail)) s x (value_of test m) m (λ v. if is_zero v then done m else then_do (body_run m) later) (value_deeds test m) (λ v. if is_zero v then [] else deeds_row body n m ++ on_done (body_run m) gives) (λ v. at q (from_test (is_zero v) ∷ st) h k m)
+        claims.wider (most n lt + (most n 1 + (most n 1 + tail))) ((suc j + 1) * M) s x _ _ wide
+        (claims.value lt (most n 1 + (most n 1 + tail)) s x test m (λ v. if is_zero v then done m else then_do (body_run m) later) (λ v. if is_zero v then [] else given m ++ on_done (body_run m) gives) (λ v. at q (from_test (is_zero v) ∷ st) h k m)
         (flipped_here code n test asks L A keep st h k m f fit named w.has_test)
         (λ v ok. kept_refl depth s (at q (from_test (is_zero v) ∷ st) h k m) refl refl)
-        (λ v ok. let u = from_test (is_zero v) in runs_if code n (most n 1 + (most n 1 + tail)) (at q (u ∷ st) h k m) x (is_zero v) [] (deeds_row body n m ++ on_done (body_run m) gives) (done m) (then_do (body_run m) later)
-        (λ c. lands code n _ (at q (u ∷ st) h k m) x [] h k m (kept_refl depth (at q (u ∷ st) h k m) (at (q + 1) st h k m) refl refl) (wider_in code n (most n 1) (most n 1 + (most n 1 + tail)) _ _ [] shut (zero_step code n q (p + 2) st h k m u false w.zero_is (test_zero (is_zero v) ∙ ap not c))))
-        (λ c. runs_on code n (most n 1) (most n 1 + tail) (at q (u ∷ st) h k m) (at (p + 2) st h k m) x [] _ _ (zero_step code n q (p + 2) st h k m u true w.zero_is (test_zero (is_zero v) ∙ ap not c)) (kept_refl depth (at q (u ∷ st) h k m) (at (p + 2) st h k m) refl refl)
-        (runs_on code n (most n 1) tail (at (p + 2) st h k m) s_b x [] _ _ one_turn (record { hidden = same_refl (pos 0) depth h; counters = same_set 0 depth depth k (c0 + 1) (omega arith) })
-        (runs_turn code n (most n lb) ((j + 1) * M) s_b x asks (deeds_row body n m) (body_run m) gives later (runs h k' m f_b)
-        (λ h2 k2 kept over. while_loop fit named t few has runs j h2 k2 (body_run m).store
+        (λ v ok. let u = from_test (is_zero v) in claim_if code n claims (most n 1 + (most n 1 + tail)) (at q (u ∷ st) h k m) x (is_zero v) [] (given m ++ on_done (body_run m) gives) (done m) (then_do (body_run m) later)
+        (λ c. claim_lands code n claims _ (at q (u ∷ st) h k m) x h k m (kept_refl depth (at q (u ∷ st) h k m) (at (q + 1) st h k m) refl refl) (wider_in code n (most n 1) (most n 1 + (most n 1 + tail)) _ _ [] shut (zero_step code n q (p + 2) st h k m u false w.zero_is (test_zero (is_zero v) ∙ ap not c))))
+        (λ c. claims.on (most n 1) (most n 1 + tail) (at q (u ∷ st) h k m) (at (p + 2) st h k m) x _ _ (zero_step code n q (p + 2) st h k m u true w.zero_is (test_zero (is_zero v) ∙ ap not c)) (kept_refl depth (at q (u ∷ st) h k m) (at (p + 2) st h k m) refl refl)
+        (claims.on (most n 1) tail (at (p + 2) st h k m) s_b x _ _ one_turn (record { hidden = same_refl (pos 0) depth h; counters = same_set 0 depth depth k (c0 + 1) (omega arith) })
+        (claim_turn code n claims (most n lb) ((j + 1) * M) s_b x asks (given m) (body_run m) gives later (runs h k' m f_b)
+        (λ h2 k2 kept over. while_loop opened fit named t few has runs j h2 k2 (body_run m).store
         (record { good = block_good code n body L A m t f.good over; hidden = kept.hidden.long ∙ f.hidden; counters = kept.counters.long ∙ f_b.counters; least = f.least; kept = f.kept })
         (let e : slice_index_or k2 depth 0 ≡ c0 + 1 = kept.counters.below depth (omega arith) ∙ counter_is depth (c0 + 1) k below in omega (arith, e, left))))))))
 
-  module _ (id depth p a L A keep : ℕ) (st : List ℤ) {i : _} (body : Row_of-Stmt i) where
-    abbrev rows : ℕ → List Instr
-    rows = row_code body (depth + 1)
-
+  -- the turns of a for, whose body has this code and gives this
+  module _ (id depth p a L A keep : ℕ) (st : List ℤ) (rows : ℕ → List Instr) {i : _} (body : Row_of-Stmt i) (given : Memory → List B) where
     abbrev gone : List Instr
     gone = leave_code (lets_row body)
 
@@ -174,8 +172,8 @@ module _ (code : List Instr) (n : ℕ) where
       open_next : open_at code next ≡ open_at code (p + 4)
       some : 1 ≤ open_at code (p + 4)
 
-    layout : Stands code p (turns_code p id depth a rows (lets_row body)) → Layout
-    layout has =
+    layout : ((t b : ℕ) → opens (rows t) b ≡ b - lets_row body) → Stands code p (turns_code p id depth a rows (lets_row body)) → Layout
+    layout opened has =
         let e4 : p + 1 + 1 + 1 + 1 ≡ p + 4 = omega arith in
         let e5 : p + 1 + 1 + 1 + 1 + 1 ≡ p + 5 = omega arith in
         let e5' : p + 4 + 1 ≡ p + 5 = omega arith in
@@ -189,7 +187,7 @@ module _ (code : List Instr) (n : ℕ) where
         let has_n : Stands code next nx = back code behind_rows gone nx has_g in
         let leave_is : slice_get code last_of ≡ Some (instr.Leave 1) = subst (λ z. slice_get code z ≡ Some (instr.Leave 1)) e6 has_n.1.1.1.1.1.1.0 in
         let o_turn : open_at code (p + 5) ≡ open_at code (p + 4) = ap (open_at code) (sym e5') ∙ step_open code n (p + 4) (instr.Turn depth a) turn_is (λ b. refl) in
-        let o_rows : open_at code (p + 5) ≡ open_at code behind_rows - lets_row body = open_before code (p + 5) (rows (p + 5)) has_r ∙ row_opens body (depth + 1) (p + 5) _ in
+        let o_rows : open_at code (p + 5) ≡ open_at code behind_rows - lets_row body = open_before code (p + 5) (rows (p + 5)) has_r ∙ opened (p + 5) _ in
         let o_gone : open_at code behind_rows ≡ lets_row body + open_at code next = open_before code behind_rows gone has_l ∙ leave_opens (lets_row body) _ in
         let o_next : open_at code next ≡ 1 + open_at code (next + length nx) = open_before code next nx has_n in
         record {
@@ -310,38 +308,38 @@ module _ (code : List Instr) (n : ℕ) where
     abbrev body_run : ℤ → Memory → Ran
     body_run = turn (run_row body n)
 
-    abbrev body_deeds : ℤ → Memory → List Deed
-    body_deeds v m = deeds_row body n (declare v m)
+    abbrev body_gives : ℤ → Memory → List B
+    body_gives v m = given (declare v m)
 
     abbrev outside : Around
     outside = around code n depth st (last_of + 1) keep
 
     -- behind a test: one more turn, or the end
     pub settle : (b j : ℕ) (x y : ℤ) (h : List ℤ) (k : List ℕ) (m : Memory) → most n 1 ≤ b → Good L A m → slice_get code last_of ≡ Some (instr.Leave 1)
-        → (int_lt x y ≡ true → RunsIn code n b (at (p + 4) st h k (declare x m)) outside (first_give body_run body_deeds x (min (int_gap x y) j) m) (for_turns a body_run x (int_gap x y) j m))
-        → RunsIn code n b (at (if int_lt x y then p + 4 else last_of) st h k (declare x m)) outside (first_give body_run body_deeds x (min (int_gap x y) j) m) (for_turns a body_run x (int_gap x y) j m)
+        → (int_lt x y ≡ true → claims.claim b (at (p + 4) st h k (declare x m)) outside (first_give body_run body_gives x (min (int_gap x y) j) m) (for_turns a body_run x (int_gap x y) j m))
+        → claims.claim b (at (if int_lt x y then p + 4 else last_of) st h k (declare x m)) outside (first_give body_run body_gives x (min (int_gap x y) j) m) (for_turns a body_run x (int_gap x y) j m)
     settle b j x y h k m wide good is again =
         let s = at last_of st h k (declare x m) in
-        runs_branch code n b (p + 4) last_of st h k (declare x m) outside (int_lt x y) _ (for_turns a body_run x (int_gap x y) j m) again
-        (λ c. runs_as code n b s outside [] _ (done m) _ (sym (gives_over body_run body_deeds x y j m c)) (sym (for_over a body_run x y j m c))
-        (lands code n b s outside [] h k m (kept_refl depth s (at (last_of + 1) st h k m) refl refl) (wider_in code n (most n 1) b s (at (last_of + 1) st h k m) [] wide (index_gone last_of x h k m good is))))
+        claim_branch code n claims b (p + 4) last_of st h k (declare x m) outside (int_lt x y) _ (for_turns a body_run x (int_gap x y) j m) again
+        (λ c. claim_as code n claims b s outside [] _ (done m) _ (sym (gives_over body_run body_gives x y j m c)) (sym (for_over a body_run x y j m c))
+        (claim_lands code n claims b s outside h k m (kept_refl depth s (at (last_of + 1) st h k m) refl refl) (wider_in code n (most n 1) b s (at (last_of + 1) st h k m) [] wide (index_gone last_of x h k m good is))))
 
-    pub for_loop : IsIndex → Stands code p (turns_code p id depth a rows (lets_row body))
-        → ((h : List ℤ) (k : List ℕ) (m : Memory) → Fine code n (p + 5) (L + 1) A keep h k m → RunsIn code n (most n (length (rows (p + 5)))) (at (p + 5) st h k m) (around code n (depth + 1) st behind_rows keep) (deeds_row body n m) (run_row body n m))
+    pub for_loop : ((t b : ℕ) → opens (rows t) b ≡ b - lets_row body) → IsIndex → Stands code p (turns_code p id depth a rows (lets_row body))
+        → ((h : List ℤ) (k : List ℕ) (m : Memory) → Fine code n (p + 5) (L + 1) A keep h k m → claims.claim (most n (length (rows (p + 5)))) (at (p + 5) st h k m) (around code n (depth + 1) st behind_rows keep) (given m) (run_row body n m))
         → (j : ℕ) (x y : ℤ) (h : List ℤ) (k : List ℕ) (m : Memory) → Fine code n (p + 4) (L + 1) A keep h k (declare x m) → Good L A m → Counts j x y h k → int_lt x y ≡ true
-        → RunsIn code n ((j + 1) * most n turn_steps) (at (p + 4) st h k (declare x m)) outside (first_give body_run body_deeds x (min (int_gap x y) j) m) (for_turns a body_run x (int_gap x y) j m)
-    for_loop index has runs zero x y h k m f good counts test =
-        let l = layout has in
+        → claims.claim ((j + 1) * most n turn_steps) (at (p + 4) st h k (declare x m)) outside (first_give body_run body_gives x (min (int_gap x y) j) m) (for_turns a body_run x (int_gap x y) j m)
+    for_loop opened index has runs zero x y h k m f good counts test =
+        let l = layout opened has in
         let s = at (p + 4) st h k (declare x m) in
         let below : depth < length k = omega (arith, index.few, f.counters) in
         let keep_le : keep ≤ L = omega (arith, f.kept, l.some) in
         let cut : cut_to keep (declare x m) ≡ cut_to keep m = sym (cut_twice keep L (declare x m) keep_le) ∙ ap (cut_to keep) (index_dropped L x m good.scalars) in
         let wide : most n 1 ≤ (0 + 1) * most n turn_steps = omega (arith, wider_most n 1 turn_steps (omega arith)) in
-        runs_as code n _ s outside [] _ (starved a m) _ (sym (gives_starved body_run body_deeds x y m)) (sym (for_starved a body_run x y m test))
-        (subst (λ w. EndsIn code n ((0 + 1) * most n turn_steps) s [] (starved a w)) cut
-        (wider_end_in code n (most n 1) _ s (starved a (cut_to keep (declare x m))) [] wide (out_of_turns code n (p + 4) depth a (L + 1) A keep st h k (declare x m) f below (omega (arith, counts.left)) l.turns)))
-    for_loop index has runs (suc j) x y h k m f good counts test =
-        let l = layout has in
+        claim_as code n claims _ s outside [] _ (starved a m) _ (sym (gives_starved body_run body_gives x y m)) (sym (for_starved a body_run x y m test))
+        (claim_starved code n claims _ s outside a m (subst (λ w. EndsIn code n ((0 + 1) * most n turn_steps) s [] (starved a w)) cut
+        (wider_end_in code n (most n 1) _ s (starved a (cut_to keep (declare x m))) [] wide (out_of_turns code n (p + 4) depth a (L + 1) A keep st h k (declare x m) f below (omega (arith, counts.left)) l.turns))))
+    for_loop opened index has runs (suc j) x y h k m f good counts test =
+        let l = layout opened has in
         let lr = length (rows (p + 5)) in
         let lg = length gone in
         let M = most n turn_steps in
@@ -357,15 +355,15 @@ module _ (code : List Instr) (n : ℕ) where
         let s_b = at (p + 5) st h k' (declare x m) in
         let fits = fits_next x y counts.index_fits counts.high_fits (is_below x y test) in
         let later = for_turns a body_run v (int_gap v y) j in
-        let gives = first_give body_run body_deeds v (min (int_gap v y) j) in
+        let gives = first_give body_run body_gives v (min (int_gap v y) j) in
         let tail = most n lg + (most n 6 + (j + 1) * M) in
         let wide : most n 1 + (most n lr + tail) ≤ (suc j + 1) * M = omega (arith, more_turns j M, most_more n lg 6, most_more n lr (lg + 6), most_more n 1 (lr + (lg + 6))) in
         let wide_1 : most n 1 ≤ (j + 1) * M = omega (arith, some_turns j M, wider_most n 1 turn_steps (omega arith)) in
         let one_turn : Comes code n 1 s [] s_b = subst (λ z. Comes code n 1 s [] (at z st h k' (declare x m))) e5 (turned code n (p + 4) depth a (L + 1) A keep st h k (declare x m) f below (omega (arith, counts.left)) l.turns) in
-        runs_as code n _ s outside (body_deeds x m ++ on_done (body_run x m) gives) _ (then_do (body_run x m) later) _ (sym (gives_more body_run body_deeds x y j m test)) (sym (for_more a body_run x y j m test))
-        (runs_wider code n (most n 1 + (most n lr + tail)) ((suc j + 1) * M) s outside _ _ wide
-        (runs_on code n (most n 1) (most n lr + tail) s s_b outside [] _ _ one_turn (record { hidden = same_refl (pos 0) depth h; counters = same_set 0 depth depth k (c0 + 1) (omega arith) })
-        (runs_cut code n (most n lr) tail s_b outside behind_rows D (body_deeds x m) (run_row body n (declare x m)) gives later (runs h k' (declare x m) f_b) keep_le
+        claim_as code n claims _ s outside (body_gives x m ++ on_done (body_run x m) gives) _ (then_do (body_run x m) later) _ (sym (gives_more body_run body_gives x y j m test)) (sym (for_more a body_run x y j m test))
+        (claims.wider (most n 1 + (most n lr + tail)) ((suc j + 1) * M) s outside _ _ wide
+        (claims.on (most n 1) (most n lr + tail) s s_b outside _ _ one_turn (record { hidden = same_refl (pos 0) depth h; counters = same_set 0 depth depth k (c0 + 1) (omega arith) })
+        (claim_cut code n claims (most n lr) tail s_b outside behind_rows D (body_gives x m) (run_row body n (declare x m)) gives later (runs h k' (declare x m) f_b) keep_le
         (λ h2 k2 kept over.
         let r = (run_row body n (declare x m)).store in
         let m1 = cut_to D r in
@@ -389,6 +387,6 @@ module _ (code : List Instr) (n : ℕ) where
           index_fits = fits;
           high_fits = counts.high_fits;
         } in
-        runs_on code n (most n lg) (most n 6 + (j + 1) * M) s_g s_n outside [] (gives m1) (later m1) going (kept_refl depth s_g s_n refl refl)
-        (runs_on code n (most n 6) ((j + 1) * M) s_n s_t outside [] (gives m1) (later m1) (next_index next x y h2 k2 m1 f_n good_1 index high_2 fits l.has_next) (kept_refl depth s_n s_t refl refl)
-        (settle ((j + 1) * M) j v y h2 k2 m1 wide_1 good_1 l.leaves (λ c. for_loop index has runs j v y h2 k2 m1 f_t good_1 counts_1 c)))))))
+        claims.on (most n lg) (most n 6 + (j + 1) * M) s_g s_n outside (gives m1) (later m1) going (kept_refl depth s_g s_n refl refl)
+        (claims.on (most n 6) ((j + 1) * M) s_n s_t outside (gives m1) (later m1) (next_index next x y h2 k2 m1 f_n good_1 index high_2 fits l.has_next) (kept_refl depth s_n s_t refl refl)
+        (settle ((j + 1) * M) j v y h2 k2 m1 wide_1 good_1 l.leaves (λ c. for_loop opened index has runs j v y h2 k2 m1 f_t good_1 counts_1 c)))))))

@@ -9,10 +9,10 @@ use Rattle.nona_tree.specs.declared.trees.Stmt.{Stmt, Row_of-Stmt}
 use Rattle.nona_tree.specs.Memory.{Memory, scalar_at, cells_of, declare, assign, cut_to}
 use Rattle.nona_tree.specs.Value.{place_of, from_test, is_zero, value_of, cell_of}
 use Rattle.nona_tree.specs.Numbers.{IsI64, IsI64Stmt, IsI64Row}
-use Rattle.nona_tree.specs.Run.{Ran, done, starved, with_value, block, turn, run, run_row}
+use Rattle.nona_tree.specs.Run.{done, starved, with_value, block, turn, run, run_row}
 use Rattle.nona_tree.specs.Scope.{IsNamed, IsCellNamed}
 use Rattle.nona_tree.specs.Beside.{on_ok}
-use Rattle.nona_tree.specs.Deeds.{Deed, value_deeds, deeds_row}
+use Rattle.nona_tree.specs.Deeds.{Deed, value_deeds}
 use Rattle.nona_tree.proofs.Keeps.{SameArrays, arrays_kept, row_kept}
 use Rattle.nona_tree.proofs.I64.{row_fits}
 use Rattle.nona_code.specs.declared.instr.Instr.{Instr}
@@ -20,13 +20,13 @@ use Rattle.nona_code.specs.declared.instr.Instr.TheVariants as instr
 use Rattle.nona_code.specs.Machine.{State, ended, goes, halts, act, act_deeds, opens, open_at, leave, where_so, first_hidden}
 use Rattle.nona_code.proofs.Placed.{Stands, front, back, open_before}
 use Rattle.nona_code.proofs.Traces.{Comes, Ends, most, most_more, one, last, Gives}
-use Rattle.nona_gen.specs.Code.{expr_code, flip_code, place_code, lets_row, leave_code, block_code, stmt_code, row_code}
+use Rattle.nona_gen.specs.Code.{expr_code, flip_code, place_code, leave_code}
 use Rattle.nona_gen.specs.Fit.{IsFitExpr}
 use Rattle.nona_gen.proofs.Values.{at, so, level, level_place, Leaves, values, flipped, bound, then_quiet, gives_length, gives_at}
 use Rattle.nona_code.specs.Stands.{on_cells}
 use Rattle.nona_gen.proofs.Indices.{cell_within, cut_good, declared_good}
-use Rattle.nona_gen.proofs.Lands.{kept_refl, Around, RunsIn, lands, runs_wider, runs_value, runs_leave}
-use Rattle.nona_gen.proofs.Opened.{leave_opens, same_count, lets, stmt_opens, Good, good_after, row_depth}
+use Rattle.nona_gen.proofs.Lands.{kept_refl, Around, RunsIn, lands, runs_wider, runs_value}
+use Rattle.nona_gen.proofs.Opened.{leave_opens, same_count, lets, Good, good_after, row_depth}
 
 module _ (code : List Instr) (n : ℕ) where
   -- the scalars
@@ -142,34 +142,17 @@ module _ (code : List Instr) (n : ℕ) where
   zero_step q z st h k m v c is e =
       one code n (at q (v ∷ st) h k m) (at (if c then z else q + 1) st h k m) (instr.Zero z) [] is (ap (λ (b : Bool). goes (at (if b then z else q + 1) st h k m)) e) refl
 
-  pub runs_to : (b : ℕ) (s : State) (depth q r keep : ℕ) (st : List ℤ) (ds : List Deed) (ran : Ran) → q ≡ r → RunsIn code n b s (around depth st q keep) ds ran → RunsIn code n b s (around depth st r keep) ds ran
-  runs_to b s depth q r keep st ds ran e h = subst (λ j. RunsIn code n b s (around depth st j keep) ds ran) e h
-
   -- behind a row there is what leaves its scalars
   pub block_room : (q count : ℕ) → Stands code q (leave_code count) → count ≤ open_at code q
   block_room q count has = let e : open_at code q ≡ count + open_at code (q + length (leave_code count)) = open_before code q (leave_code count) has ∙ leave_opens count _ in omega (arith, e)
 
-  -- a block, from the row of its statements
-  pub block_by : {j : _} (row : Row_of-Stmt j) (depth p L A keep : ℕ) (st h : List ℤ) (k : List ℕ) (m : Memory) → Fine p L A keep h k m → Stands code p (block_code (row_code row depth) (lets_row row) p)
-      → RunsIn code n (most n (length (row_code row depth p))) (at p st h k m) (around depth st (p + length (row_code row depth p)) keep) (deeds_row row n m) (run_row row n m)
-      → RunsIn code n (most n (length (block_code (row_code row depth) (lets_row row) p))) (at p st h k m) (around depth st (p + length (block_code (row_code row depth) (lets_row row) p)) keep) (deeds_row row n m) (block (run_row row n) m)
-  block_by row depth p L A keep st h k m f has r =
-      let c = row_code row depth p in
-      let l = leave_code (lets_row row) in
-      let has_l = back code p c l has in
-      let e1 : length c + length l ≡ length (c ++ l) = sym (length-append c l) in
-      let e2 : p + length c + length l ≡ p + length (c ++ l) = omega (arith, e1) in
-      let x = around depth st (p + length (c ++ l)) keep in
-      runs_wider code n (most n (length c) + most n (length l)) (most n (length (c ++ l))) (at p st h k m) x (deeds_row row n m) (block (run_row row n) m) (fits_length (length c) (length l) _ e1)
-      (runs_leave code n (most n (length c)) (at p st h k m) x (p + length c) (length m.scalars) (lets_row row) (deeds_row row n m) (run_row row n m) r (λ over. row_depth row n (length m.scalars) m refl over) (omega (arith, f.kept, f.good.scalars)) e2 has_l)
-
-  -- what holds behind a statement
-  pub fine_behind : (s : Stmt) (depth p L A keep more : ℕ) (h h' : List ℤ) (k k' : List ℕ) (m : Memory) → IsI64Stmt s → Fine p L A keep h k m → Stands code p (stmt_code s depth p)
-      → (run s n m).end ≡ outcome.Done → length h' ≡ length h → length k' ≡ length k → lets s ≤ open_at code (p + length (stmt_code s depth p))
-      → Fine (p + length (stmt_code s depth p)) (L + lets s) A keep h' k' (run s n m).store
-  fine_behind s depth p L A keep more h h' k k' m t f has over eh ek some =
-      let q = p + length (stmt_code s depth p) in
-      let e : open_at code p ≡ open_at code q - lets s = open_before code p (stmt_code s depth p) has ∙ stmt_opens s depth p (open_at code q) in
+  -- what holds behind a statement with this code
+  pub fine_behind : (s : Stmt) (c : List Instr) (p L A keep : ℕ) (h h' : List ℤ) (k k' : List ℕ) (m : Memory) → ((b : ℕ) → opens c b ≡ b - lets s) → IsI64Stmt s → Fine p L A keep h k m → Stands code p c
+      → (run s n m).end ≡ outcome.Done → length h' ≡ length h → length k' ≡ length k → lets s ≤ open_at code (p + length c)
+      → Fine (p + length c) (L + lets s) A keep h' k' (run s n m).store
+  fine_behind s c p L A keep h h' k k' m opened t f has over eh ek some =
+      let q = p + length c in
+      let e : open_at code p ≡ open_at code q - lets s = open_before code p c has ∙ opened (open_at code q) in
       record {
         good = good_after s n L A m t f.good over;
         hidden = eh ∙ f.hidden;
@@ -220,9 +203,6 @@ module _ (code : List Instr) (n : ℕ) where
   flipped_here e p L A keep st h k m f fit named has =
       let named_here : IsNamed e (length m.scalars) (length m.arrays) = subst (λ x. IsNamed e x (length m.arrays)) (sym f.good.scalars) (subst (λ x. IsNamed e L x) (sym f.good.arrays) named) in
       flipped code n h k m e p st (cut_to keep m) fit named_here has (fine_leaves p L A keep h k m f)
-
-  pub runs_as : (b : ℕ) (s : State) (x : Around) (ds es : List Deed) (r q : Ran) → ds ≡ es → r ≡ q → RunsIn code n b s x ds r → RunsIn code n b s x es q
-  runs_as b s x ds es r q e g h = subst (λ l. RunsIn code n b s x l q) e (subst (λ y. RunsIn code n b s x ds y) g h)
 
   pub turn_good : {j : _} (row : Row_of-Stmt j) (L A : ℕ) (x : ℤ) (m : Memory) → IsI64Row row → IsI64 x → Good L A m → (run_row row n (declare x m)).end ≡ outcome.Done → Good L A (turn (run_row row n) x m).store
   turn_good row L A x m t fits good over =

@@ -1,3 +1,4 @@
 pub mod Code
 pub mod Fit
+pub mod MainCode
 pub mod Units
