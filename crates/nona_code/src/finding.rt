@@ -8,7 +8,7 @@ ghost use Rattle.nona_store.specs.Banks.{Allows};
 ghost use Rattle.nona_code.specs.declared.finding.Found.TheVariants.{Ended};
 ghost use Rattle.nona_code.specs.Machine.{goes, act_deeds, open_at, leave, save};
 ghost use Rattle.nona_code.specs.Rule.{takes, puts};
-ghost use Rattle.nona_code.specs.Ready.{IsReady, IsThereIn, HasPlace, does, joined_cell, joined_scalar, loaded, state_of};
+ghost use Rattle.nona_code.specs.Ready.{IsReady, IsThereIn, HasPlace, does, joined_cell, joined_scalar, state_of};
 ghost use Rattle.nona_code.specs.Found.{IsFound, HasRoomFor, StopKeeps};
 
 use crate::answers::{Worked, is_no, locate, operate};
@@ -63,7 +63,13 @@ pub fn find<B: Bank>(
 {
     match *instr {
         Instr::Push(value) => Found::Put(value),
-        Instr::Load(id) => Found::Put(load(registers, bank, id)),
+        Instr::Load(id) => {
+            if id < FIRST_HIDDEN {
+                Found::Put(bank.scalar(id))
+            } else {
+                Found::Number(registers.hidden[(id - FIRST_HIDDEN) as usize])
+            }
+        }
         Instr::Len(array) => Found::Put(bank.length(array) as i64),
         Instr::Save(id) => {
             let value = registers.stack.pop();
@@ -162,20 +168,6 @@ pub fn find<B: Bank>(
             Found::Region { number, low, high }
         }
         Instr::Stop => Found::Ended(Outcome::Done),
-    }
-}
-
-/// The scalar with this id, visible or hidden.
-fn load<B: Bank>(registers: &Registers, bank: &mut B, id: u32) -> i64
-    requires { IsThereIn id (length (B.state bank.old).scalars) (length registers.now.hidden.items) }
-    ensures value { result ≡ loaded id (B.state bank.old) registers.now.hidden.items }
-    ensures state { B.state bank.new ≡ B.state bank.old }
-    ensures limits { B.limits bank.new ≡ B.limits bank.old }
-{
-    if id < FIRST_HIDDEN {
-        bank.scalar(id)
-    } else {
-        registers.hidden[(id - FIRST_HIDDEN) as usize]
     }
 }
 
