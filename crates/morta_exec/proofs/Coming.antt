@@ -11,10 +11,10 @@ use Rattle.nona_tree.specs.declared.trees.Loop.{Loop}
 use Rattle.nona_tree.specs.declared.trees.Stmt.{Stmt, For}
 use Rattle.nona_tree.specs.Memory.{Memory, Extends}
 use Rattle.nona_tree.specs.Run.{Ran, run}
-use Rattle.nona_main.specs.declared.frame.Stop.{Stop}
-use Rattle.nona_main.specs.declared.frame.Stop.TheVariants as stop
-use Rattle.nona_main.specs.Course.{Course}
-use Rattle.nona_main.specs.Frame.{Stops, opened}
+use Rattle.nona_code.specs.declared.main_statements.Stop.{Stop}
+use Rattle.nona_code.specs.declared.main_statements.Stop.TheVariants as stop
+use Rattle.nona_code.specs.Course.{Course}
+use Rattle.nona_code.specs.MainStops.{Stops, opened}
 use Rattle.morta_task.specs.declared.opening.Opening.{Opening}
 use Rattle.morta_task.specs.RegionView.{RegionView}
 use Rattle.morta_task.specs.declared.intervals.Interval.{Interval}

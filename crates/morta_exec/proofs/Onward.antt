@@ -14,10 +14,10 @@ use Rattle.nona_tree.specs.Run.{Ran, run, done}
 use Rattle.nona_tree.specs.Numbers.{IsI64}
 use Rattle.nona_tree.specs.Scope.{IsScoped}
 use Rattle.nona_tree.specs.Entries.{Opened, regions_all, count_all, IsEntryOf}
-use Rattle.nona_main.specs.Course.{Course, ended}
-use Rattle.nona_main.specs.declared.frame.Stop.{Stop}
-use Rattle.nona_main.specs.declared.frame.Stop.TheVariants as stops
-use Rattle.nona_main.specs.Frame.{IsAtRegion, Stops, CanLeave}
+use Rattle.nona_code.specs.Course.{Course, ended}
+use Rattle.nona_code.specs.declared.main_statements.Stop.{Stop}
+use Rattle.nona_code.specs.declared.main_statements.Stop.TheVariants as stops
+use Rattle.nona_code.specs.MainStops.{IsAtRegion, Stops, CanLeave}
 use Rattle.morta_task.specs.declared.opening.Opening.{Opening}
 use Rattle.morta_task.specs.RegionView.{RegionView}
 use Rattle.morta_task.specs.ImageView.{is_region_of}

@@ -11,7 +11,7 @@ use Rattle.nona_tree.specs.Memory.{Memory, Extends}
 use Rattle.nona_tree.specs.Run.{Ran, done}
 use Rattle.nona_tree.specs.Entries.{Opened, entries_all, regions_all, IsEntryOf}
 use Rattle.nona_tree.proofs.Keeps.{MorePrinted}
-use Rattle.nona_main.specs.Course.{Course, course_of}
+use Rattle.nona_code.specs.Course.{Course, course_of}
 use Rattle.morta_task.specs.RegionView.{RegionView}
 use Rattle.morta_task.specs.ImageView.{is_region_of}
 use Rattle.morta_task.specs.Entries.{EntryView, numbered, numbered_from}

@@ -9,7 +9,7 @@ use Rattle.nona_tree.specs.Numbers.{AreI64, IsI64, IsI64Stmt}
 use Rattle.nona_tree.specs.Scope.{IsSteady}
 use Rattle.nona_tree.specs.Smallness.{IsSmallLoop}
 use Rattle.nona_tree.specs.Entries.{regions_all, IsEntryOf}
-use Rattle.nona_main.specs.Course.{Course}
+use Rattle.nona_code.specs.Course.{Course}
 use Rattle.morta_task.specs.declared.opening.Opening.{Opening}
 use Rattle.morta_task.specs.RegionView.{RegionView}
 use Rattle.morta_task.specs.ImageView.{ImageView, is_region_of}

@@ -4,7 +4,7 @@ use Rattle.nona_tree.specs.Memory.{Memory}
 use Rattle.nona_tree.specs.Numbers.{AreI64}
 use Rattle.nona_tree.specs.Run.{done}
 use Rattle.nona_tree.specs.Scope.{AreScoped}
-use Rattle.nona_main.specs.Course.{course_of}
+use Rattle.nona_code.specs.Course.{course_of}
 use Rattle.nona_code.specs.declared.main_frame.CodeFrame.{CodeFrame}
 use Rattle.nona_code.specs.MainLeft.{IsLeft}
 use Rattle.morta_task.specs.ImageView.{ImageView, is_region_of}

@@ -5,7 +5,7 @@ use Rattle.nona_tree.specs.declared.outcomes.Outcome.{Outcome}
 use Rattle.nona_tree.specs.Memory.{Memory}
 use Rattle.nona_tree.specs.Run.{Ran, done, Reaches}
 use Rattle.nona_tree.specs.Entries.{regions_all, IsEntryOf}
-use Rattle.nona_main.specs.Course.{Course}
+use Rattle.nona_code.specs.Course.{Course}
 use Rattle.morta_task.specs.ImageView.{is_region_of}
 use Rattle.morta_task.specs.Entries.{EntryView, IsEntered}
 use Rattle.morta_task.specs.Running.{IsIn}

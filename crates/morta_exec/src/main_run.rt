@@ -20,7 +20,7 @@ use crate::shown::show;
 use crate::start::{Arrival, Pending, Start};
 use fate_io::Sink;
 use morta_task::{Asker, Entry, Handoff, Image, Log, Opening, RegionCode, Runner};
-use nona_main::{MainFrame, Stop};
+use nona_code::{MainFrame, Stop};
 use nona_store::{Ended, Store};
 use nona_tree::{Outcome, printed_grows};
 

@@ -18,7 +18,7 @@ use crate::start::{Arrival, Start};
 use fate_io::{SendFault, Sink};
 use morta_task::{Entry, Image, Opening};
 use named::Named;
-use nona_main::{MainFrame, Stop};
+use nona_code::{MainFrame, Stop};
 use nona_num::{gap, offset};
 use nona_store::{Ended, Store};
 use nona_tree::{Outcome, after_next, lengths_stay, printed_grows, scalars_stay};

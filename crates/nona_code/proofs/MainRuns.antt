@@ -11,9 +11,9 @@ use Rattle.nona_tree.specs.Scope.{IsScoped}
 use Rattle.nona_tree.specs.Value.{place_of, apply, value_of}
 use Rattle.nona_tree.specs.Run.{Ran, run, done, starved}
 use Rattle.nona_tree.proofs.Depth.{same_if_no_let}
-use Rattle.nona_main.specs.Course as course
-use Rattle.nona_main.specs.Course.{Course, opens}
-use Rattle.nona_main.specs.Frame.{opened, IsAtRegion}
+use Rattle.nona_code.specs.Course as course
+use Rattle.nona_code.specs.Course.{Course, opens}
+use Rattle.nona_code.specs.MainStops.{opened, IsAtRegion}
 use Rattle.nona_code.specs.declared.instr.Instr.{Instr}
 use Rattle.nona_code.specs.declared.instr.Instr.TheVariants as instr
 use Rattle.nona_code.specs.Machine.{State, Halt, ended, region, stuck, Next, goes, halts, act, open_at, step_by, Trace, trace, onward, most_steps, onto, where_so, given, pushed, stored, leave, first_hidden, take_two}

@@ -8,6 +8,10 @@ pub mod Stands
 pub mod SoundView
 pub mod Units
 pub mod Marked
+pub mod Course
+pub mod MainStops
 pub mod Main
 pub mod MainLeft
 pub mod MainPrints
+pub mod Worked
+pub mod Found

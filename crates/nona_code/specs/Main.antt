@@ -9,9 +9,9 @@ use Rattle.nona_tree.specs.Numbers.{AreI64}
 use Rattle.nona_tree.specs.Run.{Ran, run}
 use Rattle.nona_tree.specs.Scope.{IsScoped, AreScoped}
 use Rattle.nona_tree.specs.Value.{value_of}
-use Rattle.nona_main.specs.Course as course
-use Rattle.nona_main.specs.Course.{Course, opens, course_of}
-use Rattle.nona_main.specs.Frame.{opened}
+use Rattle.nona_code.specs.Course as course
+use Rattle.nona_code.specs.Course.{Course, opens, course_of}
+use Rattle.nona_code.specs.MainStops.{opened}
 use Rattle.nona_code.specs.declared.instr.Instr.{Instr}
 use Rattle.nona_code.specs.Machine.{State, Halt, ended, region, trace, most_steps, begun, open_at, leave}
 

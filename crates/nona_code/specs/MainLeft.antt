@@ -6,7 +6,7 @@ use Rattle.nona_tree.specs.Memory.{Memory}
 use Rattle.nona_tree.specs.Numbers.{AreI64}
 use Rattle.nona_tree.specs.Run.{Ran, done}
 use Rattle.nona_tree.specs.Scope.{AreScoped}
-use Rattle.nona_main.specs.Course.{Course, course_of}
+use Rattle.nona_code.specs.Course.{Course, course_of}
 use Rattle.nona_code.specs.declared.main_frame.CodeFrame.{CodeFrame}
 use Rattle.nona_code.specs.Machine.{State}
 use Rattle.nona_code.specs.Main.{Left, StandsForMain}

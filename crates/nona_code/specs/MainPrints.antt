@@ -10,8 +10,8 @@ use Rattle.nona_tree.specs.Memory.{Memory, scalar_at, cells_of, cell_at, assign,
 use Rattle.nona_tree.specs.Value.{place_of, apply}
 use Rattle.nona_tree.specs.Run.{run, trapped, starved}
 use Rattle.nona_tree.proofs.Keeps.{MorePrinted, printed_kept, run_kept}
-use Rattle.nona_main.specs.Course.{Course}
-use Rattle.nona_main.specs.Frame.{OnlyPrints}
+use Rattle.nona_code.specs.Course.{Course}
+use Rattle.nona_code.specs.MainStops.{OnlyPrints}
 use Rattle.nona_code.specs.declared.instr.Instr.{Instr}
 use Rattle.nona_code.specs.declared.instr.Instr.TheVariants as instr
 use Rattle.nona_code.specs.Machine.{State, Halt, ended, region, stuck, Next, goes, halts, act, open_at, step_by, Trace, trace, onward, most_steps, take_one, take_two, where_so, given, given_by, pushed, stored, leave, first_hidden}

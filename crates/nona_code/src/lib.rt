@@ -7,10 +7,12 @@
 #![tactic(auto)]
 
 mod answers;
+mod finding;
 mod frame;
 mod instr;
 mod limits;
 mod main_frame;
+mod main_statements;
 mod marks;
 mod opens;
 mod registers;
@@ -26,5 +28,6 @@ pub use frame::{Frame, UnitEnd, stores_allow_all};
 pub use instr::Instr;
 pub use limits::{FIRST_HIDDEN, INSTRUCTIONS, PLACES};
 pub use main_frame::CodeFrame;
+pub use main_statements::{MainFrame, Stop};
 pub use sound::Sound;
 pub use verifying::verify;

@@ -10,7 +10,7 @@ use crate::opens::count_open;
 use crate::registers::Registers;
 use crate::run::{Stopped, run_from};
 use crate::sound::Sound;
-use nona_main::{MainFrame, Stop};
+use crate::main_statements::{MainFrame, Stop};
 use nona_store::Store;
 use std::alloc::{AllocError, Global};
 

@@ -30,6 +30,15 @@ impl Registers {
         })
     }
 
+    /// No room, no hidden scalars and no counters. It takes no memory.
+    pub fn none(alloc: Global) -> Registers {
+        Registers {
+            stack: Stack::none(alloc),
+            hidden: Vec::new(alloc),
+            counters: Vec::new(alloc),
+        }
+    }
+
     /// Empties the stack, and sets the first hidden scalars and counters to 0, where all others still are.
     pub fn rest(&mut self, hidden: usize, counters: usize)
         requires few_hidden { hidden ≤ places }

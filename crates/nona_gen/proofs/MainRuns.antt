@@ -16,7 +16,7 @@ use Rattle.nona_tree.specs.Deeds.{deeds, value_deeds}
 use Rattle.nona_tree.specs.Entries.{loop_with, count_in, count_row, entries, entries_row}
 use Rattle.nona_tree.proofs.Depth.{same_if_no_let}
 use Rattle.nona_tree.proofs.Equations.{run-For, scoped-For}
-use Rattle.nona_main.specs.Frame.{opened}
+use Rattle.nona_code.specs.MainStops.{opened}
 use Rattle.nona_code.specs.declared.instr.Instr.{Instr}
 use Rattle.nona_code.specs.declared.instr.Instr.TheVariants as instr
 use Rattle.nona_code.specs.Machine.{open_at}

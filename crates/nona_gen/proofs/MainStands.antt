@@ -12,7 +12,7 @@ use Rattle.nona_tree.specs.Run.{done, then_from, run, run_all}
 use Rattle.nona_tree.specs.Scope.{AreScoped, is_let}
 use Rattle.nona_tree.specs.Beside.{on_end}
 use Rattle.nona_tree.specs.Entries.{Opened, count_in, entries, entries_all}
-use Rattle.nona_main.specs.Course.{Course, course_of}
+use Rattle.nona_code.specs.Course.{Course, course_of}
 use Rattle.nona_code.specs.declared.instr.Instr.{Instr}
 use Rattle.nona_code.specs.declared.instr.Instr.TheVariants as instr
 use Rattle.nona_code.specs.Machine.{opens, open_at, begun, most_steps, places}

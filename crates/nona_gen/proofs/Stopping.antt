@@ -13,9 +13,9 @@ use Rattle.nona_tree.specs.Scope.{IsScoped}
 use Rattle.nona_tree.specs.Beside.{on_ok, on_end}
 use Rattle.nona_tree.specs.Entries.{Opened}
 use Rattle.nona_tree.specs.Deeds.{Deed, value_deeds}
-use Rattle.nona_main.specs.Course as course
-use Rattle.nona_main.specs.Course.{Course, opens}
-use Rattle.nona_main.specs.Frame.{opened}
+use Rattle.nona_code.specs.Course as course
+use Rattle.nona_code.specs.Course.{Course, opens}
+use Rattle.nona_code.specs.MainStops.{opened}
 use Rattle.nona_code.specs.declared.instr.Instr.{Instr}
 use Rattle.nona_code.specs.declared.instr.Instr.TheVariants as instr
 use Rattle.nona_code.specs.Machine.{State, Halt, ended, region, open_at, leave, step_by, trace, most_steps}

@@ -1,7 +1,7 @@
 use Rattle.std.proofs.Common.{subst, refl, arith, rules, FitsSigned, w64}
 use Rattle.std.proofs.lemmas.Int.{to_z-of_z}
 use Rattle.fate_io.specs.Sending.{sent_since}
-use Rattle.nona_main.specs.Frame.{Stops}
+use Rattle.nona_code.specs.MainStops.{Stops}
 use Rattle.morta_exec.specs.Began.{began, whole_run}
 use Rattle.morta_exec.proofs.Stopping.{handed_on}
 use Rattle.morta_exec.proofs.Passing.{shown_front}

@@ -1,6 +1,6 @@
 use Rattle.std.proofs.Common.{length, refl, sym, subst, arith}
 use Rattle.nona_tree.specs.declared.outcomes.Outcome.TheVariants as outcome
-use Rattle.nona_main.specs.Course.{course_of}
+use Rattle.nona_code.specs.Course.{course_of}
 use Rattle.nona_code.specs.Main.{Left}
 use Rattle.nona_code.specs.Ready.{state_of}
 use Rattle.nona_code.proofs.Running.{follows_first}

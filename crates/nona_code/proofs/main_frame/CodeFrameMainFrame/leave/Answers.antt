@@ -1,5 +1,5 @@
 use Rattle.std.proofs.Common.{◌≤◌, length, sym, ap, subst, ◌∙◌, arith}
-use Rattle.nona_main.specs.Course as course
+use Rattle.nona_code.specs.Course as course
 use Rattle.nona_code.specs.Machine.{open_at, leave}
 use Rattle.nona_code.proofs.MainRuns.{frame_leaves}
 use Rattle.nona_code.proofs.main_frame.CodeFrameMainFrame.leave.Goals as goal

@@ -9,9 +9,9 @@ use Rattle.nona_tree.specs.Value.{value_of}
 use Rattle.nona_tree.specs.Run.{Ran, run, done}
 use Rattle.nona_tree.specs.Scope.{IsScoped}
 use Rattle.nona_tree.specs.Entries.{Opened}
-use Rattle.nona_main.specs.declared.frame.Stop.{Stop}
-use Rattle.nona_main.specs.declared.frame.Stop.TheVariants as stop
-use Rattle.nona_main.specs.Course.{Course, ended, opens}
+use Rattle.nona_code.specs.declared.main_statements.Stop.{Stop}
+use Rattle.nona_code.specs.declared.main_statements.Stop.TheVariants as stop
+use Rattle.nona_code.specs.Course.{Course, ended, opens}
 
 -- the entry to a region with this number and loop
 abbrev pub opened : ℕ → Loop → ℤ → ℤ → Memory → Opened

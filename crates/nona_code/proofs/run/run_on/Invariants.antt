@@ -6,7 +6,7 @@ use Rattle.nona_code.specs.Rule.{UsesBelow}
 use Rattle.nona_code.specs.Stops.{KeepsFrom, IsOnWay}
 use Rattle.nona_code.specs.Ready.{state_of}
 use Rattle.nona_code.proofs.Nearer.{steps_left}
-use Rattle.nona_code.proofs.run.run_from.Given as goal
+use Rattle.nona_code.proofs.run.run_on.Given as goal
 
 abbrev pub decreases-instrs : goal.decreases-instrs
 decreases-instrs g l = steps_left l.code l.turns (most_steps l.code l.turns) (state_of l.registers l.pc (g.B.Bank.state l.bank))

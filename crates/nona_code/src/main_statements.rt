@@ -1,8 +1,8 @@
 ghost use Rattle.std.specs.Prelude.{◌≡◌, ℕ, IfOk, OnOk};
 ghost use Rattle.nona_tree.specs.Memory.{Memory, Extends};
 ghost use Rattle.nona_tree.specs.Run.{Ran};
-ghost use Rattle.nona_main.specs.Course.{Course};
-ghost use Rattle.nona_main.specs.Frame.{CanGoOn, CanLeave, NextStops, Leaves, OnlyPrints};
+ghost use Rattle.nona_code.specs.Course.{Course};
+ghost use Rattle.nona_code.specs.MainStops.{CanGoOn, CanLeave, NextStops, Leaves, OnlyPrints};
 
 use nona_store::Store;
 use nona_tree::Outcome;
