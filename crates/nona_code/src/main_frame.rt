@@ -6,11 +6,11 @@ ghost use Rattle.nona_code.specs.MainLeft.{IsLeft, BeginsMain};
 ghost use Rattle.nona_code.specs.MainPrints.{left_prints};
 
 use crate::instr::Instr;
+use crate::main_statements::{MainFrame, Stop};
 use crate::opens::count_open;
 use crate::registers::Registers;
 use crate::run::{Stopped, run_from};
 use crate::sound::Sound;
-use crate::main_statements::{MainFrame, Stop};
 use nona_store::Store;
 use std::alloc::{AllocError, Global};
 
