@@ -1,33 +1,31 @@
 -- Where the guard holds, a calm statement is done.
-use Rattle.std.proofs.Common.{◌≡◌, ◌≢◌, ℕ, zero, suc, ◌<◌, ◌≤◌, ◌+◌, ◌^◌, ◌==◌, ◌&&◌, Bool, true, false, not, ℤ, pos, negsuc, ◌+ℤ◌, ◌-ℤ◌, ◌*ℤ◌, ◌≤ℤ◌, ◌<ℤ◌, List, [], ◌∷◌, ◌++◌, length, map, refl, sym, ap, ◌∙◌, subst, arith, if◌then◌else◌, Some, None, is_some, nat_lt, length-append, ⊎_elim}
+use Rattle.std.proofs.Common.{◌≡◌, ℕ, zero, suc, ◌<◌, ◌≤◌, ◌+◌, ◌==◌, ◌&&◌, Bool, true, false, ℤ, pos, negsuc, ◌+ℤ◌, ◌-ℤ◌, ◌≤ℤ◌, ◌<ℤ◌, List, [], ◌∷◌, length, refl, sym, ap, ◌∙◌, subst, arith, if◌then◌else◌, is_some, length-append}
 use Rattle.std.proofs.Math.ListN.{get_or-map}
 use Rattle.std.proofs.Math.Seq.{get_or-append_seam}
-use Rattle.std.proofs.lemmas.Bool.{cases_lt}
-use Rattle.std.proofs.lemmas.Int.{ints, clamps}
+use Rattle.std.proofs.lemmas.Int.{ints}
 use Rattle.std.proofs.lemmas.List.{get_or_append_left}
-use Rattle.std.specs.Int.{w64, int_gap}
-use Rattle.std.specs.Prelude.{Result, Ok, Err, int_lt, int_le, min, nat_le, slice_index_or}
+use Rattle.std.specs.Int.{int_gap}
+use Rattle.std.specs.Prelude.{Result, Ok, int_le, slice_index_or}
 use Rattle.nona_num.specs.declared.range.Range.{Range}
 use Rattle.nona_num.specs.Ranges.{Holds}
 use Rattle.nona_num.specs.Folds.{join_of}
 use Rattle.nona_tree.specs.declared.names.Use.{Use}
 use Rattle.nona_tree.specs.declared.outcomes.Trap.{Trap}
-use Rattle.nona_tree.specs.declared.outcomes.Outcome.{Outcome}
 use Rattle.nona_tree.specs.declared.outcomes.Outcome.TheVariants as outcome
 use Rattle.nona_tree.specs.declared.trees.Access.{Access}
-use Rattle.nona_tree.specs.declared.trees.Expr.{Expr, Number}
+use Rattle.nona_tree.specs.declared.trees.Expr.{Number}
 use Rattle.nona_tree.specs.declared.trees.Stmt.{Stmt, Let, Set, Fold, Put, FoldPut, If', While', For', Print, Row_of-Stmt, end_of-Stmt, more_of-Stmt, items-the_row-Stmt}
 use Rattle.nona_tree.specs.Memory.{Memory, scalar_at, cells_of, cell_at, declare, assign, put_cell, print}
-use Rattle.nona_tree.specs.Numbers.{IsI64, AreI64, IsI64Expr, IsI64Stmt, IsI64Row, AreI64Stmts}
+use Rattle.nona_tree.specs.Numbers.{IsI64, AreI64, IsI64Expr, IsI64Stmt, IsI64Row}
 use Rattle.nona_tree.specs.Deeds.{SameSizes}
-use Rattle.nona_tree.specs.Run.{Ran, done, starved, with_value, then_from, then_do, block, turn, first_turns, for_turns, run, run_row, run_all}
-use Rattle.nona_tree.specs.Scope.{IsScoped, IsRowScoped, IsSteady, IsRowSteady, depth_after}
-use Rattle.nona_tree.specs.Value.{Answer, then_use, is_zero, place_of, value_of, cell_of}
+use Rattle.nona_tree.specs.Run.{Ran, done, with_value, then_from, then_do, block, turn, first_turns, for_turns, run, run_row, run_all}
+use Rattle.nona_tree.specs.Scope.{IsScoped, IsRowScoped, IsSteady, IsRowSteady}
+use Rattle.nona_tree.specs.Value.{then_use, is_zero, place_of, value_of, cell_of}
 use Rattle.nona_tree.proofs.Depth.{depth_where_done, turns_depth}
-use Rattle.nona_tree.proofs.I64.{run_fits, row_fits, turns_fit}
+use Rattle.nona_tree.proofs.I64.{run_fits, turns_fit}
 use Rattle.nona_tree.proofs.Keeps.{SameArrays, arrays_kept, run_kept, turns_kept, kept_first}
 use Rattle.nona_tree.proofs.Turns.{all_turns}
-use Rattle.nona_forms.specs.Affine.{Affine, form_at, form_of, among}
+use Rattle.nona_forms.specs.Affine.{form_at, form_of, among}
 use Rattle.nona_forms.specs.Verdicts.{if_form}
 use Rattle.nona_forms.specs.Calm.{is_plain, is_calm_expr, is_calm_cell, is_calm_stmt, is_calm_row}
 use Rattle.nona_forms.specs.Guards.{is_i64_range, with_range, fits_place, fits_expr, fits_cell, fits_turns, fits_stmt, fits_row}
@@ -37,7 +35,7 @@ use Rattle.nona_forms.proofs.Exact.{exact_value}
 use Rattle.nona_forms.proofs.Separate.{found_index}
 use Rattle.nona_forms.proofs.Sound.{i64_row_at}
 use Rattle.nona_forms.proofs.Spared.{Keeps, keeps_order, keeps_turn, run_keeps, row_keeps, among_more}
-use Rattle.nona_forms.proofs.Fitting.{IsWithin, HasValue, form_ranged, place_fits, value_has}
+use Rattle.nona_forms.proofs.Fitting.{IsWithin, form_ranged, place_fits, value_has}
 
 abbrev pub IsDone : Ran → Type 0
 IsDone r = r.end ≡ outcome.Done

@@ -1,48 +1,32 @@
 -- Where the guard holds, a calm body is done.
-use Rattle.std.proofs.Common.{◌≡◌, ◌≢◌, ℕ, zero, suc, ◌<◌, ◌≤◌, ◌+◌, ◌^◌, ◌==◌, ◌&&◌, Bool, true, false, not, ℤ, pos, negsuc, ◌+ℤ◌, ◌-ℤ◌, ◌*ℤ◌, ◌≤ℤ◌, ◌<ℤ◌, List, [], ◌∷◌, ◌++◌, length, map, refl, sym, ap, ◌∙◌, subst, arith, if◌then◌else◌, Some, None, is_some, nat_lt, length-append, ⊎_elim}
-use Rattle.std.proofs.Math.IntN.{+ℤ_assoc}
-use Rattle.std.proofs.lemmas.Int.{ints, clamps}
-use Rattle.std.proofs.lemmas.List.{get_or_append_left}
-use Rattle.std.proofs.Math.ListN.{get_or-map}
-use Rattle.std.specs.Int.{w64, int_gap, int_rem_euclid}
+use Rattle.std.proofs.Common.{◌≡◌, ℕ, zero, suc, ◌<◌, ◌^◌, ◌&&◌, Bool, true, false, not, ℤ, pos, negsuc, ◌≤ℤ◌, ◌<ℤ◌, List, [], ◌∷◌, length, refl, sym, ap, ◌∙◌, subst, arith, if◌then◌else◌, Some, nat_lt}
+use Rattle.std.proofs.lemmas.Int.{ints}
+use Rattle.std.specs.Int.{int_rem_euclid}
 use Rattle.std.specs.List.{AllByRecursion}
-use Rattle.std.specs.Prelude.{All, Result, Ok, Err, int_lt, int_le, min, nat_le, unsigned_abs, slice_index_or}
-use Rattle.std.specs.declared.option.Option.{Option}
+use Rattle.std.specs.Prelude.{Ok, int_lt, int_le, unsigned_abs}
 use Rattle.nona_num.specs.declared.range.Range.{Range}
 use Rattle.nona_num.specs.Ranges.{Holds}
 use Rattle.nona_num.specs.Numbers.{neg_of, div_of, rem_of}
-use Rattle.nona_tree.specs.declared.outcomes.Trap.{Trap}
 use Rattle.nona_tree.specs.declared.outcomes.TrapKind.TheVariants.{Index, Divide}
-use Rattle.nona_tree.specs.declared.outcomes.Outcome.{Outcome}
-use Rattle.nona_tree.specs.declared.outcomes.Outcome.TheVariants as outcome
 use Rattle.nona_tree.specs.declared.trees.Op.{Op}
 use Rattle.nona_tree.specs.declared.trees.Op.TheVariants as op
-use Rattle.nona_tree.specs.declared.trees.Access.{Access}
 use Rattle.nona_tree.specs.declared.trees.Expr.{Expr, Number, Scalar, Cell', Len, Neg', Not', Binary', more_of-Expr, end_of-Expr}
 use Rattle.nona_tree.specs.declared.trees.Expr.TheBlock.{more_of-Access, end_of-Access}
-use Rattle.nona_tree.specs.declared.trees.Stmt.{Stmt, Let, Set, Fold, Put, FoldPut, If', While', For', Print, Row_of-Stmt, end_of-Stmt, more_of-Stmt, items-the_row-Stmt}
-use Rattle.nona_tree.specs.Memory.{Memory, scalar_at, cells_of, declare}
-use Rattle.nona_tree.specs.Numbers.{IsI64, AreI64, IsI64Expr, IsI64Stmt, IsI64Row, AreI64Stmts}
+use Rattle.nona_tree.specs.Memory.{Memory, scalar_at, cells_of}
+use Rattle.nona_tree.specs.Numbers.{IsI64, AreI64, IsI64Expr}
 use Rattle.nona_tree.specs.Deeds.{SameSizes}
-use Rattle.nona_tree.specs.Run.{Ran, done, starved, with_value, then_from, then_do, block, turn, first_turns, for_turns, run, run_row, run_all}
-use Rattle.nona_tree.specs.Scope.{IsScoped, IsRowScoped, IsSteady, IsRowSteady, depth_after}
-use Rattle.nona_tree.specs.Value.{Answer, then_use, trap, divided, apply, is_zero, from_test, place_of, value_of, cell_of}
-use Rattle.nona_tree.proofs.Depth.{depth_where_done}
-use Rattle.nona_tree.proofs.I64.{run_fits, row_fits, turns_fit}
-use Rattle.nona_tree.proofs.Keeps.{SameArrays, arrays_kept, run_kept}
-use Rattle.nona_tree.proofs.Turns.{all_turns}
+use Rattle.nona_tree.specs.Value.{Answer, then_use, trap, apply, is_zero, from_test, place_of, value_of}
 use Rattle.nona_forms.specs.declared.terms.Term.{Term}
 use Rattle.nona_forms.specs.Affine.{Affine, form_at, form_of, among}
 use Rattle.nona_forms.specs.Verdicts.{if_form}
-use Rattle.nona_forms.specs.Calm.{is_division, is_divisor, is_plain, is_calm_expr, is_calm_cell, is_calm_stmt, is_calm_row}
-use Rattle.nona_forms.specs.Guards.{lies_in, is_i64_range, with_range, fits_place, fits_expr, fits_cell, fits_turns, fits_stmt, fits_row}
-use Rattle.nona_forms.specs.Boxes.{sum_range, box, point, form_range}
+use Rattle.nona_forms.specs.Calm.{is_division, is_divisor, is_plain, is_calm_expr}
+use Rattle.nona_forms.specs.Guards.{lies_in, fits_place, fits_expr}
+use Rattle.nona_forms.specs.Boxes.{box, point, form_range}
 use Rattle.nona_forms.proofs.FormValues.{one_value}
 use Rattle.nona_forms.proofs.Named.{AreAmong}
-use Rattle.nona_forms.proofs.InBoxes.{both_true, sum_holds, box_holds, ids_same}
+use Rattle.nona_forms.proofs.InBoxes.{both_true, sum_holds, box_holds}
 use Rattle.nona_forms.proofs.Exact.{exact_value, few_cells}
 use Rattle.nona_forms.proofs.Separate.{found_index, forms_named}
-use Rattle.nona_forms.proofs.Spared.{Keeps, run_keeps, row_keeps}
 
 -- a store like that of the entry, whose scalars with these names lie in their ranges
 pub record IsWithin (entry : Memory) (names : List ℕ) (ranges : ℕ → Range) (m : Memory) : Type 0 where

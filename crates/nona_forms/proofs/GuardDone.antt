@@ -1,41 +1,30 @@
 -- Where the guard of an entry holds, each iteration is done.
-use Rattle.std.proofs.Common.{◌≡◌, ◌≢◌, ℕ, zero, suc, ◌<◌, ◌≤◌, ◌+◌, ◌^◌, ◌==◌, ◌&&◌, IsTrue, Bool, true, false, not, ℤ, pos, negsuc, ◌+ℤ◌, ◌-ℤ◌, ◌≤ℤ◌, ◌<ℤ◌, List, [], ◌∷◌, ◌++◌, length, map, refl, sym, ap, ◌∙◌, subst, arith, if◌then◌else◌, Some, None, nat_lt, length-append, ⊎_elim}
-use Rattle.std.proofs.lemmas.Bool.{cases_lt}
+use Rattle.std.proofs.Common.{◌≡◌, ℕ, ◌<◌, ◌≤◌, ◌+◌, ◌&&◌, IsTrue, Bool, true, false, ℤ, pos, negsuc, ◌+ℤ◌, ◌-ℤ◌, ◌≤ℤ◌, ◌<ℤ◌, List, [], ◌∷◌, length, refl, sym, ap, ◌∙◌, subst, arith, if◌then◌else◌, length-append}
 use Rattle.std.proofs.lemmas.Int.{ints}
-use Rattle.std.proofs.lemmas.List.Elements.{All-from_recursion, All-append}
 use Rattle.std.specs.Int.{int_gap}
-use Rattle.std.specs.List.{AllByRecursion, Contains}
-use Rattle.std.specs.Prelude.{All, Result, Ok, Err, IfOk, int_le, nat_le}
-use Rattle.std.specs.declared.option.Option.{Option}
+use Rattle.std.specs.Prelude.{int_le, nat_le}
 use Rattle.nona_num.specs.declared.range.Range.{Range}
-use Rattle.nona_num.specs.Ranges.{Holds}
 use Rattle.nona_tree.specs.declared.outcomes.Outcome.TheVariants as outcome
-use Rattle.nona_tree.specs.declared.trees.Op.{Op}
-use Rattle.nona_tree.specs.declared.trees.Op.TheVariants as op
-use Rattle.nona_tree.specs.declared.trees.Access.{Access}
-use Rattle.nona_tree.specs.declared.trees.Expr.{Expr, Number, Scalar, Cell', Len, Neg', Not', Binary', more_of-Expr, end_of-Expr}
-use Rattle.nona_tree.specs.declared.trees.Expr.TheBlock.{more_of-Access, end_of-Access}
 use Rattle.nona_tree.specs.declared.trees.Loop.{Loop}
-use Rattle.nona_tree.specs.declared.trees.Stmt.{Stmt, Let, Set, Fold, Put, FoldPut, If', While', For', For, Print, Row_of-Stmt, end_of-Stmt, more_of-Stmt, items-the_row-Stmt, items_hidden-the_row-Stmt-0}
+use Rattle.nona_tree.specs.declared.trees.Stmt.{Stmt, For, Row_of-Stmt, end_of-Stmt, more_of-Stmt, items-the_row-Stmt, items_hidden-the_row-Stmt-0}
 use Rattle.nona_tree.specs.declared.trees.Stmt.TheBlock.{hidden-the_row-Stmt-0}
-use Rattle.nona_tree.specs.Memory.{Memory, scalar_at, cells_of, declare}
-use Rattle.nona_tree.specs.Numbers.{IsI64, AreI64, IsI64Expr, IsI64Stmt, IsI64Row}
+use Rattle.nona_tree.specs.Memory.{Memory, scalar_at, declare}
+use Rattle.nona_tree.specs.Numbers.{IsI64}
 use Rattle.nona_tree.specs.Entries.{Entry, after}
-use Rattle.nona_tree.specs.Run.{Ran, run_row, run_all, turn, first_turns}
-use Rattle.nona_tree.specs.Scope.{IsScoped, IsRowScoped, IsSteady, IsRowSteady}
+use Rattle.nona_tree.specs.Run.{run_all, turn, first_turns}
+use Rattle.nona_tree.specs.Scope.{IsRowScoped, IsSteady, IsRowSteady}
 use Rattle.nona_tree.specs.Value.{value_of}
 use Rattle.nona_tree.proofs.Equations.{run_body}
 use Rattle.nona_tree.proofs.I64.{value_fits}
 use Rattle.nona_forms.specs.declared.limits.TheConstants.{ACCESSES}
-use Rattle.nona_forms.specs.Affine.{Affine, form_at, form_of, form_by, on_form, if_bounded, among, no_terms}
-use Rattle.nona_forms.specs.References.{Inner, Reference, expr_references, written_references, inside, references, references_row, references_all, assigned, assigned_row, assigned_all, missing_below, invariants_of, names_of}
+use Rattle.nona_forms.specs.Affine.{among}
+use Rattle.nona_forms.specs.References.{references_all, assigned_all, invariants_of, names_of}
 use Rattle.nona_forms.specs.Calm.{is_calm, is_calm_stmt, is_calm_row, is_calm_all}
 use Rattle.nona_forms.specs.Guards.{with_range, fits_stmt, fits_row, fits_all, ranges_of, guard_of}
 use Rattle.nona_forms.specs.Boxes.{point}
 use Rattle.nona_forms.specs.Separate.{IsLoopEntry}
 use Rattle.nona_forms.proofs.Steadier.{assigned_body, steady_row_more, missing}
-use Rattle.nona_forms.proofs.FormValues.{one_value}
-use Rattle.nona_forms.proofs.InBoxes.{both_true, ids_same}
+use Rattle.nona_forms.proofs.InBoxes.{both_true}
 use Rattle.nona_forms.proofs.Exact.{fits_found}
 use Rattle.nona_forms.proofs.Fitting.{IsWithin, at_point}
 use Rattle.nona_forms.proofs.FitsDone.{IsDone, index_within, i64_between, turns_done, row_done}

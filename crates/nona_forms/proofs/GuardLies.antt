@@ -1,27 +1,25 @@
 -- Where the guard holds, the exact value of each plain access lies in its array.
-use Rattle.std.proofs.Common.{◌≡◌, ◌≢◌, ℕ, zero, suc, ◌<◌, ◌≤◌, ◌==◌, ◌&&◌, IsTrue, Bool, true, false, ℤ, pos, ◌-ℤ◌, ◌≤ℤ◌, ◌<ℤ◌, List, [], ◌∷◌, ◌++◌, length, map, refl, sym, ap, ◌∙◌, subst, arith, if◌then◌else◌, Some, None}
+use Rattle.std.proofs.Common.{◌≡◌, ℕ, ◌==◌, ◌&&◌, IsTrue, Bool, true, false, ℤ, pos, ◌-ℤ◌, ◌≤ℤ◌, ◌<ℤ◌, List, [], ◌∷◌, ◌++◌, length, map, refl, sym, ap, ◌∙◌, subst, arith, if◌then◌else◌, Some, None}
 use Rattle.std.proofs.lemmas.Int.{ints}
 use Rattle.std.specs.List.{AllByRecursion, Contains}
 use Rattle.std.specs.Prelude.{Ok, int_le}
 use Rattle.std.specs.declared.option.Option.{Option}
 use Rattle.nona_num.specs.declared.range.Range.{Range}
 use Rattle.nona_num.specs.Ranges.{Holds}
-use Rattle.nona_tree.specs.declared.trees.Op.{Op}
-use Rattle.nona_tree.specs.declared.trees.Op.TheVariants as op
 use Rattle.nona_tree.specs.declared.trees.Access.{Access}
 use Rattle.nona_tree.specs.declared.trees.Expr.{Expr, Number, Scalar, Cell', Len, Neg', Not', Binary', more_of-Expr, end_of-Expr}
 use Rattle.nona_tree.specs.declared.trees.Expr.TheBlock.{more_of-Access, end_of-Access}
 use Rattle.nona_tree.specs.declared.trees.Loop.{Loop}
-use Rattle.nona_tree.specs.declared.trees.Stmt.{Stmt, Let, Set, Fold, Put, FoldPut, If', While', For', For, Print, Row_of-Stmt, end_of-Stmt, more_of-Stmt}
+use Rattle.nona_tree.specs.declared.trees.Stmt.{Stmt, Let, Set, Fold, Put, FoldPut, If', While', For', Print, Row_of-Stmt, end_of-Stmt, more_of-Stmt}
 use Rattle.nona_tree.specs.Memory.{Memory, scalar_at, cells_of}
-use Rattle.nona_tree.specs.Numbers.{IsI64, AreI64, IsI64Expr, IsI64Stmt, IsI64Row, AreI64Stmts}
+use Rattle.nona_tree.specs.Numbers.{IsI64Expr, IsI64Stmt, IsI64Row, AreI64Stmts}
 use Rattle.nona_tree.specs.Value.{value_of}
 use Rattle.nona_forms.specs.Affine.{Affine, form_at, form_of, form_by, on_form, among}
-use Rattle.nona_forms.specs.References.{Inner, Reference, Fixed, HasValue, IsStoreWith, as_in, IsPossible, IsPossibleAt, given_in, expr_references, written_references, inside, references, references_row, references_all, invariants_of, names_of}
+use Rattle.nona_forms.specs.References.{Inner, Reference, Fixed, HasValue, IsStoreWith, IsPossible, given_in, expr_references, written_references, inside, references, references_row, references_all, invariants_of, names_of}
 use Rattle.nona_forms.specs.Verdicts.{names_inside, if_form}
 use Rattle.nona_forms.specs.Guards.{is_i64_range, lies_in, with_range, fits_place, fits_expr, fits_cell, fits_turns, fits_stmt, fits_row, fits_all, ranges_of, guard_of}
 use Rattle.nona_forms.specs.Boxes.{point, form_range}
-use Rattle.nona_forms.specs.Separate.{IsLoopEntry, LiesAt, Lies}
+use Rattle.nona_forms.specs.Separate.{IsLoopEntry, Lies}
 use Rattle.nona_forms.proofs.FormValues.{one_value}
 use Rattle.nona_forms.proofs.InBoxes.{both_true, ids_same}
 use Rattle.nona_forms.proofs.Exact.{exact_value}

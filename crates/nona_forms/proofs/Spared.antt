@@ -1,5 +1,5 @@
 -- A run keeps each scalar of these names, where its text assigns none of them.
-use Rattle.std.proofs.Common.{◌≡◌, ℕ, zero, suc, ◌<◌, ◌≤◌, ◌+◌, ◌==◌, Bool, true, false, ℤ, pos, List, [], ◌∷◌, ◌++◌, length, refl, sym, ap, ◌∙◌, subst, arith, if◌then◌else◌, length-append}
+use Rattle.std.proofs.Common.{◌≡◌, ℕ, suc, ◌<◌, ◌==◌, Bool, true, false, ℤ, pos, List, [], ◌∷◌, length, refl, sym, ◌∙◌, arith, if◌then◌else◌, length-append}
 use Rattle.std.proofs.lemmas.List.{length-take, get_or-take, get_or_append_left}
 use Rattle.std.specs.List.{Contains}
 use Rattle.nona_tree.specs.declared.trees.Stmt.{Stmt, Row_of-Stmt}
