@@ -13,6 +13,7 @@ mod pairs;
 mod ranges;
 mod terms;
 
+pub use assigned::push_all_assigned;
 pub use boxes::add_times;
 pub use names::{Ids, Names};
 pub use of_expr::{form, form_inside};

@@ -1,9 +1,11 @@
-//! Cases of forms, of the accesses of loops and of the dependence test, and nothing else. A case takes a text through `parse`
-//! and `check`, calls what stands below, with memory as ample as the machine's, and compares the answer.
+//! Cases of forms, of the accesses of loops, of the dependence test and of the guard, and nothing else. A case takes a text
+//! through `parse` and `check`, calls what stands below, with memory as ample as the machine's, and compares the answer.
 #![tactic(auto)]
 
 #[cfg(test)]
 mod forms;
+#[cfg(test)]
+mod guards;
 #[cfg(test)]
 mod pairs;
 #[cfg(test)]

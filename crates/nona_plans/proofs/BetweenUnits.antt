@@ -11,7 +11,8 @@ use Rattle.nona_plans.specs.Lawful.{AreTied, IsGraph}
 use Rattle.nona_plans.proofs.Leading.{same_units, or_left, or_right, both, and_both}
 use Rattle.nona_plans.proofs.Lists.{or_assoc, units_to}
 use Rattle.nona_plans.proofs.Choosing.{by_either}
-use Rattle.nona_plans.specs.Units.{Local, local_of, locals_from, locals_of, uses, is_tied, is_carried, tie_of, ties_of, tie_edges, local_edges, edges_of, graph_of}
+use Rattle.nona_plans.specs.declared.graphs.Local.{Local}
+use Rattle.nona_plans.specs.Units.{local_of, locals_from, locals_of, uses, is_tied, is_carried, tie_of, ties_of, tie_edges, local_edges, edges_of, graph_of}
 
 -- what holds of each
 each_append : {A : Type 0} (P : A → Type 0) (xs ys : List A) → AllByRecursion P xs → AllByRecursion P ys → AllByRecursion P (xs ++ ys)

@@ -4,16 +4,13 @@ use Rattle.std.specs.List.{list_all}
 use Rattle.std.specs.declared.option.Option.{Option}
 use Rattle.nona_num.specs.declared.folds.Fold.{Fold as By}
 use Rattle.nona_num.specs.declared.folds.Fold.TheVariants as fold
+use Rattle.nona_plans.specs.declared.graphs.Mention.{Mention}
 use Rattle.nona_tree.specs.declared.trees.Expr.{Expr, Scalar, Cell', Neg', Not', Binary', more_of-Expr, end_of-Expr}
 use Rattle.nona_tree.specs.declared.trees.Expr.TheBlock.{more_of-Access, end_of-Access}
 use Rattle.nona_tree.specs.declared.trees.Loop.{Loop}
 use Rattle.nona_tree.specs.declared.trees.Stmt.{Stmt, Let, Set, Fold, Put, FoldPut, If', While', For', Print, Row_of-Stmt, end_of-Stmt, more_of-Stmt}
 
--- a place where a scalar is named, and the fold where it is the left side of an assignment by a fold
-pub record Mention : Type 0 where
-  pub id : ℕ
-  pub by : Option By
-
+-- a place where a scalar is named otherwise than on the left of a fold
 abbrev pub plainly : ℕ → Mention
 plainly id = record { id = id; by = None }
 

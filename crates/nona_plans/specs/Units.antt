@@ -11,6 +11,7 @@ use Rattle.nona_forms.specs.References.{Reference, references, references_all, a
 use Rattle.nona_forms.specs.Verdicts.{spot_of, shape_of, is_apart}
 use Rattle.nona_plans.specs.declared.graphs.Tie.{Tie}
 use Rattle.nona_plans.specs.declared.graphs.Graph.{Graph}
+use Rattle.nona_plans.specs.declared.graphs.Local.{Local}
 use Rattle.nona_plans.specs.Components.{up_to}
 use Rattle.nona_plans.specs.Mentions.{mentions, reduction_of, prints}
 
@@ -57,12 +58,7 @@ may_meet l a x y =
 abbrev pub carried_arrays : List ℕ → Loop → List ℕ
 carried_arrays left_out l = filter (λ a. has_pair (may_meet l a) (references_all l.body)) (written_arrays left_out l)
 
--- a local of the body's top: its unit, its id, and whether it is assigned after its let
-pub record Local : Type 0 where
-  pub unit : ℕ
-  pub id : ℕ
-  pub assigned : Bool
-
+-- the local of the body's top that a statement declares, if it does
 abbrev pub local_of : ℕ → Stmt → List Stmt → List Local
 local_of u (Let x e) rest = record { unit = u; id = x.id; assigned = among x.id (assigned_all rest) } ∷ []
 local_of u _ rest = []

@@ -1,6 +1,25 @@
 //! The dependence graph of a loop.
 
+use nona_num::Fold;
 use sqlite_items::Items;
+
+/// A place where a scalar is named.
+#[derive(Clone, Copy, Debug)]
+pub struct Mention {
+    pub id: u32,
+    /// The fold, where the place is the left side of an assignment by one.
+    pub by: Option<Fold>,
+}
+
+/// A local of the top of a loop's body.
+#[derive(Clone, Copy, Debug)]
+pub struct Local {
+    /// The unit that declares it.
+    pub unit: u32,
+    pub id: u32,
+    /// Whether it is assigned after its `let`.
+    pub assigned: bool,
+}
 
 /// Two units of a loop that have to stay together, since they share what one of them writes; or one unit with itself.
 #[derive(Clone, Copy, Debug, PartialEq, Eq)]

@@ -10,7 +10,7 @@ mod graphs;
 mod laws;
 mod limits;
 
-pub use graphs::{Component, Graph, Tie};
+pub use graphs::{Component, Graph, Local, Mention, Tie};
 pub use laws::{
     graph_is_between_units, leads_where_walk, plan_is_lawful, some_component_is_ready,
     stages_are_lawful,

@@ -1,0 +1,4 @@
+pub mod Sets
+pub mod Touched
+pub mod Printing
+pub mod Uses
