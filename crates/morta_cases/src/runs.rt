@@ -8,12 +8,13 @@ ghost use Rattle.morta_cases.specs.Cases.{image_of_case, store_of_case};
 
 use crate::programs::checked_of;
 use fate_io::MemorySink;
-use morta_exec::{Beginning, drive};
+use morta_exec::{Beginning, drive, run_through};
 use morta_plain::{OneThread, PlainAsker};
-use morta_task::{Asker, Both, Image, Log, Runner, reshapable_places};
+use morta_task::{Asker, Both, Image, Log, Runner, images_keep};
+use nona_gen::generate;
+use nona_stages::regions;
 use nona_store::{Ended, Store};
 use nona_tree::{Checked, Outcome, Trap, TrapKind, checked_is_scoped};
-use nona_walk::run_checked;
 use std::alloc::{AllocError, Global};
 use std::test::Fail;
 
@@ -21,8 +22,9 @@ use std::test::Fail;
 fn image_of(alloc: Global, checked: &Checked) -> Result<Image, AllocError>
     ensures { IfOk result (λ image. image ≡ image_of_case checked.now) }
 {
-    let places = reshapable_places(alloc, checked)?;
-    Image::of(alloc, checked, places.as_slice())
+    images_keep();
+    let seen = regions(alloc, checked)?;
+    generate(alloc, checked, &seen)
 }
 
 /// How a run ended, what it put, and its log.
@@ -51,6 +53,17 @@ pub fn driven<M: Runner + Asker>(
     let from = Beginning { store, turns: 100 };
     let ended = drive(alloc, &image, from, morta, &mut put, &mut log)?;
     Ok(Run { ended, put, log })
+}
+
+/// Runs a program over no input without a log, where a loop may take 100 turns.
+fn passed(alloc: Global, checked: &Checked) -> Result<Ended, Fail> {
+    checked_is_scoped();
+    checked.program();
+    let image = image_of(alloc, checked)?;
+    let store = Store::start(alloc, checked, Vec::new(alloc))?;
+    let mut put = MemorySink::new(alloc, 1000, Vec::new(alloc))?;
+    let from = Beginning { store, turns: 100 };
+    Ok(run_through(alloc, &image, from, &mut put)?)
 }
 
 #[test]
@@ -85,9 +98,9 @@ fn runs_of_one_thread(rt: HostRuntime) -> Result<(), Fail> {
         assert_eq!(rt; run.ended.outcome, outcome);
         assert_eq!(rt; run.put.text(), put);
         assert_eq!(rt; run.log.intervals().len(), intervals);
-        let walked = run_checked(alloc, &checked, Vec::new(alloc), 100)?;
-        assert_eq!(rt; walked.outcome, outcome);
-        assert_eq!(rt; walked.store.printed(), run.ended.store.printed());
+        let passed = passed(alloc, &checked)?;
+        assert_eq!(rt; passed.outcome, outcome);
+        assert_eq!(rt; passed.store.printed(), run.ended.store.printed());
     }
     Ok(())
 }

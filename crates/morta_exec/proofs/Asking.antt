@@ -6,7 +6,7 @@ use Rattle.std.proofs.lemmas.List.{length-take-le}
 use Rattle.std.proofs.lemmas.Option.{slice_get_within}
 use Rattle.nona_tree.specs.declared.plans.Plan.{Plan}
 use Rattle.nona_tree.specs.declared.trees.Loop.{Loop}
-use Rattle.morta_task.specs.declared.regions.RegionCode.{RegionCode}
+use Rattle.morta_task.specs.RegionView.{RegionView}
 use Rattle.morta_task.specs.declared.schemes.Scheme.{Scheme}
 use Rattle.morta_task.specs.declared.schemes.Scheme.TheVariants.{Seq, Any, Pipe}
 use Rattle.morta_task.specs.declared.schemes.Config.{Config}
@@ -59,7 +59,7 @@ config_by e c true is = is
 config_by e c false is = refl
 
 -- the loop and the plan of a region are those of its entry
-served_as : {M : Type 0} (promise : Promise M) (m : M) (e : EntryView) (code : RegionCode) (s : Scheme) → code.looped ≡ e.looped → code.plan ≡ e.plan
+served_as : {M : Type 0} (promise : Promise M) (m : M) (e : EntryView) (code : RegionView) (s : Scheme) → code.looped ≡ e.looped → code.plan ≡ e.plan
     → promise.serves m code.looped code.plan s → promise.serves m e.looped e.plan s
 served_as promise m e code s looped plan h =
     subst (λ (p : Plan). promise.serves m e.looped p s) plan (subst (λ (l : Loop). promise.serves m l code.plan s) looped h)

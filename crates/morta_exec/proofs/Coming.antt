@@ -16,7 +16,7 @@ use Rattle.nona_main.specs.declared.frame.Stop.TheVariants as stop
 use Rattle.nona_main.specs.Course.{Course}
 use Rattle.nona_main.specs.Frame.{Stops, opened}
 use Rattle.morta_task.specs.declared.opening.Opening.{Opening}
-use Rattle.morta_task.specs.declared.regions.RegionCode.{RegionCode}
+use Rattle.morta_task.specs.RegionView.{RegionView}
 use Rattle.morta_task.specs.declared.intervals.Interval.{Interval}
 use Rattle.morta_task.specs.Entries.{EntryView, entered, plan_of, numbered}
 use Rattle.morta_task.specs.LogView.{LogView}
@@ -42,7 +42,7 @@ abbrev pub opening : ℕ → ℕ → ℤ → ℤ → Opening
 opening number region low high = record { number = number; region = region; low = low; high = high }
 
 -- the entry to a region with this code
-pub numbered_is : (regions : List RegionCode) (n k number : ℕ) (looped : Loop) (low high : ℤ) (m : Memory) (code : RegionCode)
+pub numbered_is : (regions : List RegionView) (n k number : ℕ) (looped : Loop) (low high : ℤ) (m : Memory) (code : RegionView)
     → slice_get regions (number - 1) ≡ Some code → looped ≡ code.looped
     → numbered regions n k (opened number looped low high m) ≡ entered (opening k number low high) code.looped code.plan n m
 numbered_is regions n k number looped low high m code found same =
@@ -105,7 +105,7 @@ stopped_main promise left later b now m r log new stop fault grows prints w at b
     }
 
 -- the lines of the first numbers are a front of all lines
-front_put : (sent : Sent) (xs ys : List ℤ) → Extends xs ys → HasPut sent xs → AppendsFront sent.before sent.after (number_lines ys)
+pub front_put : (sent : Sent) (xs ys : List ℤ) → Extends xs ys → HasPut sent xs → AppendsFront sent.before sent.after (number_lines ys)
 front_put sent xs ys h put = (number_lines xs, number_lines h.0, ap number_lines h.1 ∙ flat_map-append number_line xs h.0, put.put)
 
 -- memory ran out in the main statements

@@ -6,7 +6,7 @@ use Rattle.nona_tree.specs.declared.outcomes.Trap.{Trap as Trapped}
 use Rattle.nona_tree.specs.Memory.{Memory}
 use Rattle.nona_tree.specs.Run.{Ran, done, Reaches}
 use Rattle.nona_tree.specs.declared.trees.Loop.{Loop}
-use Rattle.morta_task.specs.declared.regions.RegionCode.{RegionCode}
+use Rattle.morta_task.specs.RegionView.{RegionView}
 use Rattle.morta_task.specs.declared.schemes.Config.{Config}
 use Rattle.morta_task.specs.declared.intervals.Cut.{Cut}
 use Rattle.morta_task.specs.declared.intervals.Cut.TheVariants.{Limit, Paused, Trap, Turns}
@@ -27,11 +27,11 @@ pub too_few : (k j m n : ℕ) → k ≡ m → j ≡ n → j < k → n < m
 too_few k j m n a b h = omega (arith, a, b, h)
 
 -- the place of an entry's loop is that of its region
-pub place_of : (image : ImageView) (e : EntryView) (region : ℕ) (code : RegionCode) → IsIn e image → region ≡ e.region
+pub place_of : (image : ImageView) (e : EntryView) (region : ℕ) (code : RegionView) → IsIn e image → region ≡ e.region
     → slice_get image.regions (region - 1) ≡ Some code → e.looped.at ≡ code.looped.at
 place_of image e region code is same found =
     let one : is.code ≡ code = some_same is.code code (sym is.there ∙ ap (λ r. slice_get image.regions (r - 1)) (sym same) ∙ found) in
-    ap (λ (l : Loop). l.at) (sym is.looped) ∙ ap (λ (c : RegionCode). c.looped.at) one
+    ap (λ (l : Loop). l.at) (sym is.looped) ∙ ap (λ (c : RegionView). c.looped.at) one
 
 -- a run goes on behind a cut that is neither a trap nor want of turns
 pub cut_goes_on : (cut : Cut) → ((t : Trapped) → cut ≡ Trap t → ⊥) → ((at : ℕ) → cut ≡ Turns at → ⊥) → GoesOnBehind cut

@@ -8,6 +8,7 @@ pub mod Stopping
 pub mod Passing
 pub mod Coming
 pub mod Onward
+pub mod Through
 pub mod Printing
 pub mod Starting
 pub mod Driven

@@ -1,8 +1,7 @@
 -- The whole loop of an entry, by its iterations.
-use Rattle.std.proofs.Common.{◌≡◌, ◌≢◌, ◌⊎◌, ◌<◌, ◌≤◌, ◌+◌, ℕ, zero, suc, ℤ, pos, negsuc, ◌+ℤ◌, List, length, refl, sym, ap, subst, ◌∙◌, arith, min, inl, inr, ⊎_elim}
-use Rattle.std.specs.Prelude.{map, Ok}
+use Rattle.std.proofs.Common.{◌≡◌, ◌≢◌, ◌⊎◌, ◌<◌, ◌≤◌, ◌+◌, ℕ, zero, suc, ℤ, pos, negsuc, ◌+ℤ◌, List, refl, sym, ap, subst, ◌∙◌, arith, min, inl, inr, ⊎_elim}
+use Rattle.std.specs.Prelude.{Ok}
 use Rattle.std.proofs.lemmas.Bool.{cases_lt}
-use Rattle.std.proofs.lemmas.List.{length-map}
 use Rattle.std.proofs.lemmas.Int.{ints}
 use Rattle.std.specs.Int.{int_gap}
 use Rattle.nona_tree.specs.declared.outcomes.Outcome.{Outcome}
@@ -27,9 +26,6 @@ pub record Laws : Type 0 where
   pub next : (e : Entry) (k : ℕ) (m : Memory) → after e k ≡ done m → after e (k + 1) ≡ turn (run_all e.looped.body e.turns) (e.low +ℤ pos k) m
   pub stays : (e : Entry) (j k : ℕ) → j ≤ k → (after e j).end ≢ outcome.Done → after e k ≡ after e j
   pub grows : (ss : List Stmt) (n : ℕ) (low : ℤ) (k : ℕ) (m : Memory) → Extends m.printed (first_turns (turn (run_all ss n)) low k m).store.printed
-  pub scalars : (ss : List Stmt) (n : ℕ) (low : ℤ) (k : ℕ) (m : Memory) → length (first_turns (turn (run_all ss n)) low k m).store.scalars ≡ length m.scalars
-  pub lengths : (ss : List Stmt) (n : ℕ) (low : ℤ) (k : ℕ) (m : Memory)
-      → map length (first_turns (turn (run_all ss n)) low k m).store.arrays ≡ map length m.arrays
 
 -- how far a number lies above another one that it was made from
 above : (low z : ℤ) (k : ℕ) → z ≡ low +ℤ pos k → int_gap low z ≡ k
@@ -145,9 +141,4 @@ loops_are laws = record {
   grows = after_grows laws;
   leads = λ e k is within.
       subst (λ (m : Memory). Extends (state_after e k).store.printed m.printed) (sym (loop_store laws e is)) (after_grows laws e k (before e (last e)) within);
-  scalars = λ e is. ap (λ (m : Memory). length m.scalars) (loop_store laws e is) ∙ laws.scalars e.looped.body e.turns e.low (before e (last e)) e.store;
-  arrays = λ e is.
-      ap (λ (m : Memory). length m.arrays) (loop_store laws e is)
-      ∙ sym (length-map (state_after e (before e (last e))).store.arrays length)
-      ∙ ap length (laws.lengths e.looped.body e.turns e.low (before e (last e)) e.store) ∙ length-map e.store.arrays length;
 }

@@ -1,5 +1,5 @@
 -- From an entry of a run to the next one, or to the end.
-use Rattle.std.proofs.Common.{◌≡◌, ℕ, ◌+◌, ◌-◌, ◌<◌, ◌≤◌, ℤ, List, [], ◌∷◌, ◌++◌, length, take, refl, sym, ◌∙◌, ap, subst, append_assoc, arith, length-append, Some, slice_get}
+use Rattle.std.proofs.Common.{◌≡◌, ◌≢◌, ℕ, ◌+◌, ◌-◌, ◌<◌, ◌≤◌, ℤ, List, [], ◌∷◌, ◌++◌, length, take, refl, sym, ◌∙◌, ap, subst, append_assoc, arith, length-append, Some, slice_get}
 use Rattle.std.specs.Prelude.{All, Ok}
 use Rattle.std.proofs.lemmas.List.{take_at}
 use Rattle.std.proofs.lemmas.List.Elements.{All-head, All-tail}
@@ -17,9 +17,9 @@ use Rattle.nona_tree.specs.Entries.{Opened, regions_all, count_all, IsEntryOf}
 use Rattle.nona_main.specs.Course.{Course, ended}
 use Rattle.nona_main.specs.declared.frame.Stop.{Stop}
 use Rattle.nona_main.specs.declared.frame.Stop.TheVariants as stops
-use Rattle.nona_main.specs.Frame.{IsAtRegion, Stops}
+use Rattle.nona_main.specs.Frame.{IsAtRegion, Stops, CanLeave}
 use Rattle.morta_task.specs.declared.opening.Opening.{Opening}
-use Rattle.morta_task.specs.declared.regions.RegionCode.{RegionCode}
+use Rattle.morta_task.specs.RegionView.{RegionView}
 use Rattle.morta_task.specs.ImageView.{is_region_of}
 use Rattle.morta_task.specs.Entries.{EntryView, entered, IsEntered}
 use Rattle.morta_task.specs.LogView.{LogView}
@@ -27,22 +27,22 @@ use Rattle.morta_task.specs.Promise.{Promise}
 use Rattle.morta_task.specs.Legal.{begun, EndsAll}
 use Rattle.morta_exec.specs.Began.{Began, all_entries, whole_run}
 use Rattle.morta_exec.specs.Places.{most, ClosedBy, ComesBehind, after_interval}
-use Rattle.morta_exec.specs.EntryRun.{whole_loop, LoopsOfEntries, HasEnded}
+use Rattle.morta_exec.specs.EntryRun.{whole_loop, HasEnded}
 use Rattle.morta_exec.specs.MainRun.{Between, AtEntry, IsOver, IsOpened, to_come}
 use Rattle.morta_exec.proofs.Growing.{some_same, front_is, extends_same}
 use Rattle.morta_exec.proofs.Coming.{Prints, opening, numbered_is, next_at}
 
-loop_run : (o : Opening) (code : RegionCode) (n : ℕ) (m : Memory) → run (For code.looped) n m ≡ whole_loop (entered o code.looped code.plan n m)
+pub loop_run : (o : Opening) (code : RegionView) (n : ℕ) (m : Memory) → run (For code.looped) n m ≡ whole_loop (entered o code.looped code.plan n m)
 unfolding whole_loop
 loop_run o code n m = refl
 
 -- the region that a run comes to is one of the program's
-region_there : {M : Type 0} (promise : Promise M) (left later : Ran → Course → Type 0) (b : Began M) (now : M) (m r : Memory) (log : LogView) (number : ℕ) (low high : ℤ)
-    → (w : Between promise left b now m log) → (at : IsAtRegion later w.rest number low high r b.from.turns)
+pub region_there : {M : Type 0} (later : Ran → Course → Type 0) (b : Began M) (rest : Course) (r : Memory) (number : ℕ) (low high : ℤ)
+    → All (IsEntryOf (regions_all (is_region_of b.image) b.image.main)) rest.entries → (at : IsAtRegion later rest number low high r b.from.turns)
     → (1 ≤ number) × (number ≤ count_all (is_region_of b.image) b.image.main) × (slice_get (regions_all (is_region_of b.image) b.image.main) (number - 1) ≡ Some at.looped)
-region_there promise left later b now m r log number low high w at =
+region_there later b rest r number low high are at =
     let there = All-head (IsEntryOf (regions_all (is_region_of b.image) b.image.main)) _ at.rest.entries
-    (subst (λ (os : List Opened). All (IsEntryOf (regions_all (is_region_of b.image) b.image.main)) os) (ap (λ (c : Course). c.entries) at.whole) w.are_regions) in
+    (subst (λ (os : List Opened). All (IsEntryOf (regions_all (is_region_of b.image) b.image.main)) os) (ap (λ (c : Course). c.entries) at.whole) are) in
     let within : number - 1 < count_all (is_region_of b.image) b.image.main = slice_get_within (regions_all (is_region_of b.image) b.image.main) (number - 1) at.looped there.1 in
     (there.0, omega (arith, within), there.1)
 
@@ -58,7 +58,7 @@ at_entry promise left later b now m r log number low high o e is prints w at ope
     subst (λ (x : Opening). slice_get (regions_all (is_region_of b.image) b.image.main) (x.region - 1) ≡ Some code.looped) is opened.looped in
     let is_entry : e ≡ entered (opening (length log.entries + 1) number low high) code.looped code.plan n r =
     opened.entry ∙ ap (λ x. entered x code.looped code.plan n r) is in
-    let there = region_there promise left later b now m r log number low high w at in
+    let there = region_there later b w.rest r number low high w.are_regions at in
     let same : at.looped ≡ code.looped = some_same at.looped code.looped (sym there.2 ∙ is_loop) in
     let later_entries = to_come b (length log.entries + 1 + 1) at.rest in
     let here = entered (opening (length log.entries + 1) number low high) code.looped code.plan n r in
@@ -109,7 +109,7 @@ pub region_at : {M : Type 0} (promise : Promise M) (left later : Ran → Course 
     → (w : Between promise left b now m log) → Stops later w.rest b.from.turns stop r → stop ≡ stops.Region number low high
     → (1 ≤ number) × (number ≤ count_all (is_region_of b.image) b.image.main)
 region_at promise left later b now m r log stop number low high w at is =
-    let there = region_there promise left later b now m r log number low high w (subst (λ s. Stops later w.rest b.from.turns s r) is at) in
+    let there = region_there later b w.rest r number low high w.are_regions (subst (λ s. Stops later w.rest b.from.turns s r) is at) in
     (there.0, there.1)
 
 pub entry_at : {M : Type 0} (promise : Promise M) (left later : Ran → Course → Type 0) (b : Began M) (now : M) (m r : Memory) (log : LogView) (stop : Stop) (number : ℕ) (low high : ℤ)
@@ -131,11 +131,11 @@ listed_on es listed new more e k all is count =
 store_is : (e : EntryView) (store : Memory) (end : Outcome) → whole_loop e ≡ record { store = store; end = end } → (whole_loop e).store ≡ store
 store_is e store end h = ap (λ (r : Ran). r.store) h
 
-pub ready_on : LoopsOfEntries → (P : ℕ → ℕ → Type 0) (e : EntryView) (store : Memory) (end : Outcome) → IsEntered e → whole_loop e ≡ record { store = store; end = end }
-    → P (length e.store.scalars) (length e.store.arrays) → P (length store.scalars) (length store.arrays)
-ready_on loops P e store end is h p =
-    subst (λ (m : Memory). P (length m.scalars) (length m.arrays)) (store_is e store end h)
-    (subst (λ d. P d (length (whole_loop e).store.arrays)) (sym (loops.scalars e is)) (subst (λ a. P (length e.store.scalars) a) (sym (loops.arrays e is)) p))
+-- the blocks around a region whose loop ended otherwise than done can be left
+pub leave_on : {M : Type 0} (promise : Promise M) (left : ℕ → Ran → Course → Type 0) (b : Began M) (old now : M) (log new : LogView) (n : ℕ) (e : EntryView) (store : Memory) (end : Outcome)
+    → AtEntry promise (left n) b old log e → HasEnded promise b now e new store end → end ≢ outcome.Done → CanLeave left store
+leave_on promise left b old now log new n e store end a h other =
+    (n, end, a.rest, other, subst (λ (r : Ran). left n r a.rest) h.reaches a.goes_on)
 
 -- the loop of the entry is done, and the run goes on
 pub between_on : {M : Type 0} (promise : Promise M) (left : Ran → Course → Type 0) (b : Began M) (old now : M) (log new : LogView) (e : EntryView) (store : Memory) (end : Outcome)

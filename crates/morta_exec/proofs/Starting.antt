@@ -12,7 +12,7 @@ use Rattle.nona_tree.specs.Run.{Ran, done}
 use Rattle.nona_tree.specs.Entries.{Opened, entries_all, regions_all, IsEntryOf}
 use Rattle.nona_tree.proofs.Keeps.{MorePrinted}
 use Rattle.nona_main.specs.Course.{Course, course_of}
-use Rattle.morta_task.specs.declared.regions.RegionCode.{RegionCode}
+use Rattle.morta_task.specs.RegionView.{RegionView}
 use Rattle.morta_task.specs.ImageView.{is_region_of}
 use Rattle.morta_task.specs.Entries.{EntryView, numbered, numbered_from}
 use Rattle.morta_task.specs.LogView.{LogView, empty_log}
@@ -48,7 +48,7 @@ record First (es : List EntryView) (end : Memory) : Type 0 where
   printed : Extends place.printed end.printed
 
 -- where its first entry begins, or at its end where it has none
-first_place : (regions : List RegionCode) (n : ℕ) (end : Memory) (os : List Opened) → AllByRecursion (λ o. MorePrinted o.store end) os → First (numbered_from regions n 1 os) end
+first_place : (regions : List RegionView) (n : ℕ) (end : Memory) (os : List Opened) → AllByRecursion (λ o. MorePrinted o.store end) os → First (numbered_from regions n 1 os) end
 first_place regions n end [] prints = record {
   place = end;
   behind = record { few = omega arith; comes = at_end refl };

@@ -25,8 +25,7 @@ unfoldable pub whole_loop : EntryView → Ran
 whole_loop e = run (For e.looped) e.turns e.store
 
 -- How the whole loop of an entry stands to the states after its iterations: it ends with the last of them, out of turns
--- where it has more; it ends with one that ended otherwise than done; what is printed only grows; and the loop leaves as many
--- scalars and arrays as there were.
+-- where it has more; it ends with one that ended otherwise than done; and what is printed only grows.
 pub record LoopsOfEntries : Type 0 where
   pub whole : (e : EntryView) (m : Memory) → IsEntered e → state_after e (before e (last e)) ≡ done m → int_gap e.low e.high ≤ e.turns
       → whole_loop e ≡ done m
@@ -36,8 +35,6 @@ pub record LoopsOfEntries : Type 0 where
   pub grows : (e : EntryView) (j k : ℕ) → j ≤ k → Extends (state_after e j).store.printed (state_after e k).store.printed
   pub leads : (e : EntryView) (k : ℕ) → IsEntered e → k ≤ before e (last e)
       → Extends (state_after e k).store.printed (whole_loop e).store.printed
-  pub scalars : (e : EntryView) → IsEntered e → length (whole_loop e).store.scalars ≡ length e.store.scalars
-  pub arrays : (e : EntryView) → IsEntered e → length (whole_loop e).store.arrays ≡ length e.store.arrays
 
 -- An entry goes on behind what an interval did; or its whole loop has ended so, in the store behind that interval.
 abbrev pub EndsWith : EntryView → Interval → Option Outcome → Type 0

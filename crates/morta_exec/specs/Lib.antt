@@ -7,3 +7,5 @@ pub mod Puts
 pub mod Standing
 pub mod EntryRun
 pub mod MainRun
+pub mod Through
+pub mod Starts

@@ -2,7 +2,7 @@
 use Rattle.std.specs.Prelude.{◌≡◌, ◌⊎◌, ℕ, ◌-◌, Bool, true, IsTrue, List, [], length, None, Some, slice_get}
 use Rattle.std.specs.declared.option.Option.{Option}
 use Rattle.nona_tree.specs.declared.plans.Plan.{Plan}
-use Rattle.morta_task.specs.declared.regions.RegionCode.{RegionCode}
+use Rattle.morta_task.specs.RegionView.{RegionView}
 use Rattle.morta_task.specs.declared.schemes.Scheme.{Scheme}
 use Rattle.morta_task.specs.declared.schemes.Scheme.TheVariants.{Seq, Any, Pipe}
 use Rattle.morta_task.specs.declared.intervals.Interval.{Interval}
@@ -21,7 +21,7 @@ has plan Pipe = has_stages plan
 -- it serves each region in one thread, and with each version of its plan that it may ask for
 abbrev pub ServesAll : {M : Type 0} → Promise M → M → ImageView → Type 0
 ServesAll promise m image =
-    (region : ℕ) (code : RegionCode) (s : Scheme) → slice_get image.regions region ≡ Some code
+    (region : ℕ) (code : RegionView) (s : Scheme) → slice_get image.regions region ≡ Some code
     → (s ≡ Seq) ⊎ (promise.names m s × IsTrue (has code.plan s)) → promise.serves m code.looped code.plan s
 
 -- an interval meets the relation of what ran it

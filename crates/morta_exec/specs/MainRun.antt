@@ -11,7 +11,7 @@ use Rattle.nona_tree.specs.Smallness.{IsSmallLoop}
 use Rattle.nona_tree.specs.Entries.{regions_all, IsEntryOf}
 use Rattle.nona_main.specs.Course.{Course}
 use Rattle.morta_task.specs.declared.opening.Opening.{Opening}
-use Rattle.morta_task.specs.declared.regions.RegionCode.{RegionCode}
+use Rattle.morta_task.specs.RegionView.{RegionView}
 use Rattle.morta_task.specs.ImageView.{ImageView, is_region_of}
 use Rattle.morta_task.specs.Entries.{EntryView, entered, numbered_from}
 use Rattle.morta_task.specs.LogView.{LogView}
@@ -68,14 +68,9 @@ abbrev pub GoesOnTo : {M : Type 0} → Promise M → (Ran → Course → Type 0)
 GoesOnTo promise left b now log store None = Between promise left b now store log
 GoesOnTo promise left b now log store (Some end) = IsOver promise b log store end
 
--- a frame that goes on can go on from this store
-abbrev pub IsReadyTo : (ℕ → ℕ → Type 0) → Memory → Option Outcome → Type 0
-IsReadyTo ready store None = ready (length store.scalars) (length store.arrays)
-IsReadyTo ready store (Some end) = Unit {0}
-
 -- an entry opens so, in this store: it is to the region of an image with this number
 pub record IsOpened (image : ImageView) (opening : Opening) (n : ℕ) (m : Memory) (e : EntryView) : Type 0 where
-  pub code : RegionCode
+  pub code : RegionView
   pub there : slice_get image.regions (opening.region - 1) ≡ Some code
   pub looped : slice_get (regions_all (is_region_of image) image.main) (opening.region - 1) ≡ Some code.looped
   pub steady : IsSteady (For code.looped) []

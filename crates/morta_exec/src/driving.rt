@@ -1,12 +1,9 @@
 ghost use Rattle.std.specs.Prelude.{◌≡◌, ◌≤◌, ◌^◌, ℕ, [], length, IfOk, IfErr, OnOk};
 ghost use Rattle.std.specs.Io.KnownBytes.{Appends};
-ghost use Rattle.fate_io.specs.Sending.{sent_since};
+ghost use Rattle.fate_io.specs.Sending.{sent_since, Sends};
 ghost use Rattle.nona_tree.specs.Memory.{Memory};
 ghost use Rattle.nona_tree.specs.Run.{done, Reaches};
 ghost use Rattle.nona_tree.specs.Scope.{AreScoped};
-ghost use Rattle.nona_main.specs.Course.{course_of};
-ghost use Rattle.nona_frame.specs.Left.{left_of, ready_of};
-ghost use Rattle.morta_task.specs.ImageView.{is_region_of};
 ghost use Rattle.morta_task.specs.LogView.{empty_log};
 ghost use Rattle.morta_task.specs.Legal.{IsWholeLog};
 ghost use Rattle.morta_text.specs.Texts.{number_lines};
@@ -14,26 +11,25 @@ ghost use Rattle.morta_exec.specs.Began.{entries_from, run_from};
 ghost use Rattle.morta_exec.specs.Log.{ServesAll, LogStands};
 ghost use Rattle.morta_exec.specs.Places.{most};
 ghost use Rattle.morta_exec.specs.Drive.{RunStops};
+ghost use Rattle.morta_exec.specs.Starts.{BeginsImage};
 
 use crate::fault::DriveFault;
 use crate::main_run::drive_frame;
+use crate::one_thread::pass_all;
 use crate::start::{Beginning, Start};
-use fate_io::Sink;
+use fate_io::{SendFault, Sink};
 use morta_task::{Asker, Image, Log, Runner};
-use nona_frame::TreeFrame;
+use nona_code::CodeFrame;
 use nona_store::Ended;
 use nona_tree::entries_are_regions;
 use std::alloc::{AllocError, Global};
 use std::snapshot::Snapshot;
 
 /// A frame before the first of the main statements. The one error is that memory ran out.
-fn frame_of(alloc: Global, image: &Image) -> Result<TreeFrame<'_>, AllocError>
-    ensures left { IfOk result (λ frame. (n : ℕ) (m : Memory) → left_of frame n (done m) (course_of (is_region_of image.now) 1 image.now.main n m)) }
-    ensures ready { IfOk result (λ frame. (n depth arrays : ℕ) → AreScoped image.now.main depth arrays → ready_of frame n depth arrays) }
+fn frame_of(alloc: Global, image: &Image) -> Result<CodeFrame<'_>, AllocError>
+    ensures { IfOk result (BeginsImage image.now) }
 {
-    // An image has few enough regions.
-    image.regions();
-    TreeFrame::begin(alloc, image.main(), image.places())
+    CodeFrame::begin(alloc, image.code())
 }
 
 /// Runs an image to its end, interval by interval.
@@ -71,6 +67,8 @@ pub fn drive<M: Runner + Asker, K: Sink>(
 {
     entries_are_regions();
     let Beginning { store, turns } = from;
+    // The store's numbers are of 64 bits.
+    store.is_kept();
     let start = Start {
         alloc,
         image,
@@ -81,4 +79,43 @@ pub fn drive<M: Runner + Asker, K: Sink>(
     };
     let mut frame = frame_of(alloc, image)?;
     drive_frame(&start, &mut frame, store, morta, out, log)
+}
+
+/// Runs an image to its end in one thread, without a log.
+///
+/// At each region that the run comes to its iterations run one after another. The numbers that the main statements print are
+/// put on the sink before the region, and those of the region behind it, one put for each line.
+///
+/// After a fault a front of the lines of all numbers that the run prints was put. Takes constant time for an entry beside the
+/// iterations, and the store is never copied.
+pub fn run_through<K: Sink>(
+    alloc: Global,
+    image: &Image,
+    from: Beginning,
+    out: &mut K,
+) -> Result<Ended, SendFault>
+    requires some_turns { 1 ≤ from.turns }
+    requires few_turns { from.turns ≤ 10 ^ 12 }
+    requires scoped { AreScoped image.now.main (length from.store.scalars) (length from.store.arrays) }
+    requires printed { from.store.printed ≡ [] }
+    ensures ended { IfOk result (λ ended. Reaches (run_from image.now from) ended.store ended.outcome) }
+    ensures sent { Sends (sent_since K.written K.faults out.old out.new) (number_lines (run_from image.now from).store.printed) result }
+    ensures later { K.faults out.old ≤ K.faults out.new }
+{
+    entries_are_regions();
+    let Beginning { store, turns } = from;
+    // The store's numbers are of 64 bits.
+    store.is_kept();
+    let start = Start {
+        alloc,
+        image,
+        turns,
+        store: Snapshot::of(&store),
+        morta: Snapshot::of(&()),
+        out: Snapshot::of(out),
+    };
+    let Ok(mut frame) = frame_of(alloc, image) else {
+        return Err(SendFault::NoMemory);
+    };
+    pass_all(&start, &mut frame, store, out)
 }

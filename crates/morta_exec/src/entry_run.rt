@@ -21,7 +21,7 @@ use fate_io::Sink;
 use morta_task::{Asker, Cut, Entry, Handoff, Image, Interval, Log, Runner};
 use nona_num::gap;
 use nona_store::Store;
-use nona_tree::{Outcome, after_next, lengths_stay, loop_is_after, printed_grows, scalars_stay};
+use nona_tree::{Outcome, after_next, loop_is_after, printed_grows};
 
 /// The most intervals that a log has.
 pub const MOST: usize = 1_048_576;
@@ -33,8 +33,6 @@ pub fn loops_of_entries()
     after_next();
     loop_is_after();
     printed_grows();
-    scalars_stay();
-    lengths_stay();
 }
 
 /// How many turns lie between the bounds of an entry's loop.
@@ -45,7 +43,7 @@ fn span(entry: &Entry) -> u64
 }
 
 /// How the loop of an entry ends whose last turn is done: it may be out of turns then.
-fn whole_end(image: &Image, entry: &Entry) -> Outcome
+pub fn whole_end(image: &Image, entry: &Entry) -> Outcome
     requires entered { IsEntered entry.now }
     requires region { IsIn entry.now image.now }
     ensures { (m : Memory) → state_after entry.now (before entry.now (last entry.now)) ≡ done m → Reaches (whole_loop entry.now) m result }
@@ -55,7 +53,7 @@ fn whole_end(image: &Image, entry: &Entry) -> Outcome
         Outcome::Done
     } else {
         Outcome::OutOfTurns {
-            at: image.region(entry.region()).looped.at,
+            at: image.region(entry.region()).place(),
         }
     }
 }

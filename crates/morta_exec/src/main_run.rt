@@ -12,7 +12,7 @@ ghost use Rattle.morta_exec.specs.Log.{ServesAll};
 ghost use Rattle.morta_exec.specs.Places.{most};
 ghost use Rattle.morta_exec.specs.Puts.{HasPut};
 ghost use Rattle.morta_exec.specs.EntryRun.{HasStopped};
-ghost use Rattle.morta_exec.specs.MainRun.{Between, AtEntry, IsOver, GoesOnTo, IsReadyTo, IsOpened, BeginsEntry};
+ghost use Rattle.morta_exec.specs.MainRun.{Between, AtEntry, IsOver, GoesOnTo, IsOpened, BeginsEntry};
 
 use crate::entry_run::{loops_of_entries, run_entry};
 use crate::fault::DriveFault;
@@ -47,7 +47,7 @@ fn next_number(log: &Log) -> u32
 }
 
 /// The entry that opens so, and what its first interval begins with.
-fn arrive<M, K>(start: &Start<'_, M, K>, opening: Opening, store: Store) -> Arrival
+pub fn arrive<M, K>(start: &Start<'_, M, K>, opening: Opening, store: Store) -> Arrival
     requires some_turns { 1 ≤ start.now.turns }
     requires few_turns { start.now.turns ≤ 10 ^ 12 }
     requires first { 1 ≤ opening.region }
@@ -84,11 +84,9 @@ fn run_region<F: MainFrame, M: Runner + Asker, K: Sink>(
     requires serves { ServesAll M.promise start.now.morta.value start.now.image.now }
     requires at { AtEntry M.promise (F.left frame.old start.now.turns) (began start.now) morta.old log.old arrival.entry }
     requires begins { BeginsEntry arrival }
-    requires ready { F.ready frame.old start.now.turns (length arrival.entry.store.scalars) (length arrival.entry.store.arrays) }
     requires put { HasPut (sent_since K.written K.faults start.now.out.value out.old) arrival.entry.store.printed }
     ensures goes_on { IfOk result (λ r. GoesOnTo M.promise (F.left frame.new start.now.turns) (began start.now) morta.new log.new r.0 r.1) }
     ensures put { IfOk result (λ r. HasPut (sent_since K.written K.faults start.now.out.value out.new) r.0.printed) }
-    ensures ready { IfOk result (λ r. IsReadyTo (F.ready frame.new start.now.turns) r.0 r.1) }
     ensures added { OnOk result (length log.old.intervals < length log.new.intervals) }
     ensures stopped { IfErr result (λ fault. HasStopped M.promise (began start.now) log.new (sent_since K.written K.faults start.now.out.value out.new) fault) }
 {
@@ -119,10 +117,8 @@ fn step<F: MainFrame, M: Runner + Asker, K: Sink>(
     requires serves { ServesAll M.promise start.now.morta.value start.now.image.now }
     requires between { Between M.promise (F.left frame.old start.now.turns) (began start.now) morta.old store log.old }
     requires put { HasPut (sent_since K.written K.faults start.now.out.value out.old) store.printed }
-    requires ready { F.ready frame.old start.now.turns (length store.scalars) (length store.arrays) }
     ensures goes_on { IfOk result (λ r. GoesOnTo M.promise (F.left frame.new start.now.turns) (began start.now) morta.new log.new r.0 r.1) }
     ensures put { IfOk result (λ r. HasPut (sent_since K.written K.faults start.now.out.value out.new) r.0.printed) }
-    ensures ready { IfOk result (λ r. IsReadyTo (F.ready frame.new start.now.turns) r.0 r.1) }
     ensures added { IfOk result (λ r. r.1 ≡ None → length log.old.intervals < length log.new.intervals) }
     ensures stopped { IfErr result (λ fault. HasStopped M.promise (began start.now) log.new (sent_since K.written K.faults start.now.out.value out.new) fault) }
 {
@@ -160,7 +156,6 @@ pub fn drive_frame<F: MainFrame, M: Runner + Asker, K: Sink>(
     requires serves { ServesAll M.promise start.now.morta.value start.now.image.now }
     requires between { Between M.promise (F.left frame.old start.now.turns) (began start.now) morta.old store log.old }
     requires put { HasPut (sent_since K.written K.faults start.now.out.value out.old) store.printed }
-    requires ready { F.ready frame.old start.now.turns (length store.scalars) (length store.arrays) }
     ensures run { IfOk result (λ ended. IsOver M.promise (began start.now) log.new ended.store ended.outcome) }
     ensures put { IfOk result (λ ended. HasPut (sent_since K.written K.faults start.now.out.value out.new) ended.store.printed) }
     ensures stopped { IfErr result (λ fault. HasStopped M.promise (began start.now) log.new (sent_since K.written K.faults start.now.out.value out.new) fault) }

@@ -7,8 +7,8 @@ ghost use Rattle.morta_plain.specs.OneThread.{one_thread};
 use morta_task::{Config, Cut, Entry, Handoff, Image, Morta, Ran, Runner};
 use nona_num::offset;
 use nona_store::Store;
-use nona_tree::{Outcome, Stmt};
-use nona_walk::walk_turn;
+use nona_tree::Outcome;
+use nona_units::{Units, turn_units};
 use std::alloc::AllocError;
 
 /// A runner that takes the iterations one after another, whatever is asked for. It runs the version `seq` alone, and an
@@ -31,12 +31,12 @@ fn ended(to: i64, store: Store, cut: Cut) -> (Handoff, Ran)
     (Handoff { next: to, store }, ran)
 }
 
-/// The statements of the loop that an entry names.
-fn body_of<'a>(image: &'a Image, entry: &Entry) -> &'a [Stmt]
+/// The code of the statements of the loop that an entry names.
+fn units_of<'a>(image: &'a Image, entry: &Entry) -> &'a Units
     requires { IsIn entry.now image.now }
-    ensures { result.now ≡ entry.now.looped.body }
+    ensures { result.now.body ≡ entry.now.looped.body }
 {
-    image.region(entry.region()).looped.body.as_slice()
+    image.region(entry.region()).units()
 }
 
 /// The index that lies so many iterations behind this one, where the entry has as many.
@@ -67,10 +67,12 @@ impl Runner for OneThread {
         limit: u64,
     ) -> Result<(Handoff, Ran), AllocError> {
         let turns = entry.turns();
-        let body = body_of(image, entry);
+        let units = units_of(image, entry);
+        let mut frame = units.frame()?;
         let Handoff { next, mut store } = handoff;
         'iterations: for k in 0..limit {
-            match walk_turn(body, index_on(entry, next, k), turns, &mut store)? {
+            let index = index_on(entry, next, k);
+            match turn_units(units, index, &mut frame, turns, &mut store)? {
                 Outcome::Done => {}
                 end => {
                     let cut = Cut::of(end, k + 1, limit);

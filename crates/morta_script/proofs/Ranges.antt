@@ -11,6 +11,7 @@ use Rattle.nona_text.specs.Digits.{number_within}
 use Rattle.nona_text.proofs.Numbers.{within}
 use Rattle.weave.specs.declared.script.Command.{Command}
 use Rattle.weave.specs.Following.{IsCommand, AreCommands}
+use Rattle.morta_task.specs.declared.limits.TheConstants.{TURNS}
 use Rattle.morta_script.specs.Lines.{Line, Nothing, Says, Wrong, words_of, is_comment, until_line, after_workers, after_seq, after_use, line_by, then_commands, with_line, commands_from, commands_of, command_bound}
 
 -- a line whose command, if it has one, is in range
@@ -19,17 +20,17 @@ IsFine Nothing = Unit {0}
 IsFine (Says c) = IsCommand c
 IsFine Wrong = Unit {0}
 
-until_some : (o : Option ℕ) → ((n : ℕ) → o ≡ Some n → (1 ≤ n) × (n ≤ 10 ^ 12)) → IsFine (until_line o)
+until_some : (o : Option ℕ) → ((n : ℕ) → o ≡ Some n → (1 ≤ n) × (n ≤ TURNS)) → IsFine (until_line o)
 until_some None h = tt
 until_some (Some n) h = (refl, h n refl)
 
-until_fine : (k : List ℕ) → IsFine (until_line (number_within 1 (10 ^ 12) k))
-until_fine k = until_some (number_within 1 (10 ^ 12) k) (within 1 (10 ^ 12) k)
+until_fine : (k : List ℕ) → IsFine (until_line (number_within 1 TURNS k))
+until_fine k = until_some (number_within 1 TURNS k) (within 1 TURNS k)
 
 workers_fine : (words : List (List ℕ)) → IsFine (after_workers words)
 workers_fine [] = (refl, tt)
 workers_fine (word ∷ []) = tt
-workers_fine (word ∷ k ∷ []) = cond_both (bytes_eq word (codes "until")) (until_line (number_within 1 (10 ^ 12) k)) Wrong IsFine (λ e. until_fine k) (λ e. tt)
+workers_fine (word ∷ k ∷ []) = cond_both (bytes_eq word (codes "until")) (until_line (number_within 1 TURNS k)) Wrong IsFine (λ e. until_fine k) (λ e. tt)
 workers_fine (word ∷ k ∷ more ∷ words) = tt
 
 seq_fine : (o : Option ℕ) (words : List (List ℕ)) → IsFine (after_seq o words)

@@ -1,11 +1,13 @@
 -- The commands of a script's text.
-use Rattle.std.specs.Prelude.{ℕ, zero, suc, ◌+◌, ◌^◌, ◌==◌, Bool, false, if◌then◌else◌, List, [], ◌∷◌, map, None, Some, Ok, Err, codes}
+use Rattle.std.specs.Prelude.{ℕ, zero, suc, ◌+◌, ◌==◌, Bool, false, if◌then◌else◌, List, [], ◌∷◌, map, None, Some, Ok, Err, codes}
 use Rattle.std.specs.declared.option.Option.{Option}
 use Rattle.std.specs.declared.result.Result.{Result}
 use Rattle.std.specs.Str.{bytes_eq}
 use Rattle.nona_text.specs.Pieces.{Piece, is_space, pieces, lines_of, without_cr}
 use Rattle.nona_text.specs.Digits.{number_within}
+use Rattle.morta_task.specs.declared.limits.TheConstants.{TURNS}
 use Rattle.morta_task.specs.Running.{seq_one}
+use Rattle.morta_script.specs.declared.limits.TheConstants.{COMMANDS}
 use Rattle.weave.specs.declared.script.Command.{Command}
 use Rattle.weave.specs.declared.script.Command.TheVariants.{Use}
 
@@ -24,7 +26,7 @@ abbrev pub is_comment : List ℕ → Bool
 is_comment [] = false
 is_comment (b ∷ bs) = b == 35
 
--- one thread, until so many iterations where they are a number from 1 to 10^12
+-- one thread, until so many iterations where they are a number from 1 to the most turns of a loop
 abbrev pub until_line : Option ℕ → Line
 until_line None = Wrong
 until_line (Some k) = Says (Use seq_one (Some k))
@@ -33,7 +35,7 @@ until_line (Some k) = Says (Use seq_one (Some k))
 abbrev pub after_workers : List (List ℕ) → Line
 after_workers [] = Says (Use seq_one None)
 after_workers (word ∷ []) = Wrong
-after_workers (word ∷ k ∷ []) = if bytes_eq word (codes "until") then until_line (number_within 1 (10 ^ 12) k) else Wrong
+after_workers (word ∷ k ∷ []) = if bytes_eq word (codes "until") then until_line (number_within 1 TURNS k) else Wrong
 after_workers (word ∷ k ∷ more ∷ words) = Wrong
 
 -- what stands behind `use seq`: the number 1
@@ -55,7 +57,7 @@ line_by (word ∷ words) =
 
 -- the most commands of a script
 abbrev pub command_bound : ℕ
-command_bound = 2 ^ 16
+command_bound = COMMANDS
 
 -- a command before others, where those may stand there
 abbrev pub then_commands : Command → Result (List Command) ℕ → Result (List Command) ℕ

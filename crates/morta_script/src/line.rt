@@ -5,11 +5,9 @@ ghost use Rattle.morta_task.specs.Running.{seq_one};
 ghost use Rattle.morta_script.specs.Lines.{is_comment, after_use, after_workers, line_by, words_of};
 ghost use Rattle.morta_script.specs.Turns.{words_from, said, meant};
 
-use morta_task::Config;
+use morta_task::{Config, TURNS};
 use nona_text::{first_word, number_within, without_cr};
 use weave::Command;
-
-const TURNS: u64 = 1000000000000;
 
 /// What a line of a script is.
 #[derive(Clone, Copy, Debug)]

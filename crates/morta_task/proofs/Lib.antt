@@ -1,3 +1,3 @@
-pub mod Gathered
-pub mod OfChecked
+pub mod SameEntries
+pub mod OfRegions
 pub mod Says

@@ -1,5 +1,5 @@
 -- The entries of a run, as contracts see them.
-use Rattle.std.specs.Prelude.{◌≡◌, ℕ, ◌+◌, ◌-◌, ◌≤◌, Bool, true, false, ℤ, pos, ◌+ℤ◌, List, [], ◌∷◌, length, nat_lt, slice_get, None, Some, Ok}
+use Rattle.std.specs.Prelude.{◌≡◌, ℕ, ◌+◌, ◌-◌, ◌≤◌, Bool, true, ℤ, pos, ◌+ℤ◌, List, [], ◌∷◌, length, nat_lt, slice_get, None, Some, Ok}
 use Rattle.std.specs.declared.option.Option.{Option}
 use Rattle.std.specs.Int.{int_gap}
 use Rattle.nona_tree.specs.declared.plans.Plan.{Plan}
@@ -12,8 +12,9 @@ use Rattle.nona_tree.specs.Run.{Ran}
 use Rattle.nona_tree.specs.Scope.{IsScoped, IsSteady}
 use Rattle.nona_tree.specs.Smallness.{IsSmallLoop}
 use Rattle.nona_tree.specs.Entries.{Opened, Entry, after, entries_all, last_of}
+use Rattle.nona_stages.specs.Seen.{seq_plan}
 use Rattle.morta_task.specs.declared.opening.Opening.{Opening}
-use Rattle.morta_task.specs.declared.regions.RegionCode.{RegionCode}
+use Rattle.morta_task.specs.RegionView.{RegionView}
 use Rattle.morta_task.specs.declared.schemes.Scheme.{Scheme}
 use Rattle.morta_task.specs.declared.schemes.Scheme.TheVariants.{Seq, Any, Pipe}
 use Rattle.morta_task.specs.ImageView.{ImageView, is_region_of}
@@ -93,23 +94,19 @@ pub record IsEntered (e : EntryView) : Type 0 where
   pub any : e.any ≡ e.plan.any
   pub pipe : e.pipe ≡ has_stages e.plan
 
--- a plan of the version `seq` alone
-abbrev pub seq_plan : Plan
-seq_plan = record { any = false; pipe = []; crossing = [] }
-
 -- the plan of a region, where it is there
-abbrev pub plan_of : Option RegionCode → Plan
+abbrev pub plan_of : Option RegionView → Plan
 plan_of None = seq_plan
 plan_of (Some code) = code.plan
 
 -- a region that the run comes to, with this number in order
-abbrev pub numbered : List RegionCode → ℕ → ℕ → Opened → EntryView
+abbrev pub numbered : List RegionView → ℕ → ℕ → Opened → EntryView
 numbered regions n number o =
     let opening : Opening = record { number = number; region = o.region; low = o.low; high = o.high } in
     entered opening o.looped (plan_of (slice_get regions (o.region - 1))) n o.store
 
 -- regions that a run comes to, numbered from this one on
-abbrev pub numbered_from : List RegionCode → ℕ → ℕ → List Opened → List EntryView
+abbrev pub numbered_from : List RegionView → ℕ → ℕ → List Opened → List EntryView
 numbered_from regions n number [] = []
 numbered_from regions n number (o ∷ rest) = numbered regions n number o ∷ numbered_from regions n (number + 1) rest
 

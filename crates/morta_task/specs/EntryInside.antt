@@ -1,6 +1,7 @@
 -- What an entry keeps.
-use Rattle.std.specs.Prelude.{◌≡◌, ◌≤◌, ◌^◌}
+use Rattle.std.specs.Prelude.{◌≡◌, ◌≤◌}
 use Rattle.nona_tree.specs.Entries.{last_of}
+use Rattle.morta_task.specs.declared.limits.TheConstants.{TURNS}
 use Rattle.morta_task.specs.declared.entry.Entry.TheInside.{Inside}
 use Rattle.morta_task.specs.Entries.{EntryView}
 
@@ -9,8 +10,8 @@ abbrev pub view_of : Inside → EntryView
 view_of a = record {
   number = a.number;
   region = a.region;
-  looped = a.looped.value;
-  plan = a.plan.value;
+  looped = a.code.value.looped;
+  plan = a.code.value.plan;
   low = a.low;
   high = a.high;
   turns = a.turns;
@@ -19,8 +20,8 @@ view_of a = record {
   store = a.store.value;
 }
 
--- the number behind its last index is the one that its bounds and its turns give, of which there are 1 to 10^12
+-- the number behind its last index is the one that its bounds and its turns give, of which there are as many as there may be
 pub record IsEntry (a : Inside) : Type 0 where
   pub last : a.last ≡ last_of a.low a.high a.turns
   pub some_turns : 1 ≤ a.turns
-  pub few_turns : a.turns ≤ 10 ^ 12
+  pub few_turns : a.turns ≤ TURNS

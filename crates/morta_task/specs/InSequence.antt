@@ -3,12 +3,12 @@ use Rattle.std.specs.Prelude.{ℕ, List, map}
 use Rattle.nona_tree.specs.declared.trees.Loop.{Loop}
 use Rattle.nona_tree.specs.declared.trees.Program.{Program}
 use Rattle.nona_tree.specs.Entries.{may_reshape, is_among, places_of, regions_all}
-use Rattle.morta_task.specs.declared.regions.RegionCode.{RegionCode}
-use Rattle.morta_task.specs.Entries.{seq_plan}
+use Rattle.morta_task.specs.RegionView.{RegionView}
+use Rattle.nona_stages.specs.Seen.{seq_plan}
 use Rattle.morta_task.specs.ImageView.{ImageView}
 
 -- a region of this loop, which runs in one thread alone
-abbrev pub in_sequence : Loop → RegionCode
+abbrev pub in_sequence : Loop → RegionView
 in_sequence l = record { looped = l; plan = seq_plan }
 
 -- a program as it is run in one thread alone, whose regions are the loops that these places name

@@ -1,10 +1,13 @@
+pub mod RegionView
+pub mod RegionInside
 pub mod Entries
 pub mod ImageView
+pub mod ImageKept
 pub mod ImageInside
+pub mod OfSeen
+pub mod InSequence
 pub mod EntryInside
 pub mod LogView
 pub mod Running
 pub mod Promise
 pub mod Legal
-pub mod InSequence
-pub mod ByPlaces

@@ -7,7 +7,8 @@ use Rattle.nona_tree.specs.declared.outcomes.Outcome.TheVariants as outcome
 use Rattle.nona_tree.specs.declared.plans.Plan.{Plan}
 use Rattle.nona_tree.specs.declared.trees.Loop.{Loop}
 use Rattle.nona_tree.specs.Run.{done}
-use Rattle.morta_task.specs.declared.regions.RegionCode.{RegionCode}
+use Rattle.morta_task.specs.declared.limits.TheConstants.{WORKERS}
+use Rattle.morta_task.specs.RegionView.{RegionView}
 use Rattle.morta_task.specs.declared.schemes.Scheme.{Scheme}
 use Rattle.morta_task.specs.declared.schemes.Scheme.TheVariants.{Seq, Any, Pipe}
 use Rattle.morta_task.specs.declared.schemes.Config.{Config}
@@ -20,11 +21,11 @@ use Rattle.morta_task.specs.declared.intervals.Handoff.{Handoff}
 use Rattle.morta_task.specs.ImageView.{ImageView}
 use Rattle.morta_task.specs.Entries.{EntryView, IsEntered, offers, last, before, IsWithin, state_after}
 
--- how many workers a configuration has: one under `seq`, else 1 to 16
+-- how many workers a configuration has: one under `seq`, else up to the most that there may be
 abbrev pub HasWorkers : Scheme → ℕ → Type 0
 HasWorkers Seq workers = workers ≡ 1
-HasWorkers Any workers = (1 ≤ workers) × (workers ≤ 16)
-HasWorkers Pipe workers = (1 ≤ workers) × (workers ≤ 16)
+HasWorkers Any workers = (1 ≤ workers) × (workers ≤ WORKERS)
+HasWorkers Pipe workers = (1 ≤ workers) × (workers ≤ WORKERS)
 
 -- a configuration with as many workers as it may have
 abbrev pub IsConfig : Config → Type 0
@@ -49,7 +50,7 @@ limit_of e from until = limited (int_gap from (last e)) until
 
 -- the region of an entry is in the image, with the loop and the plan that the entry names
 pub record IsIn (e : EntryView) (image : ImageView) : Type 0 where
-  pub code : RegionCode
+  pub code : RegionView
   pub first : 1 ≤ e.region
   pub there : slice_get image.regions (e.region - 1) ≡ Some code
   pub looped : code.looped ≡ e.looped

@@ -1,4 +1,5 @@
-ghost use Rattle.std.specs.Prelude.{◌≡◌, ◌≤◌, ◌^◌};
+ghost use Rattle.std.specs.Prelude.{◌≡◌, ◌≤◌};
+ghost use Rattle.morta_task.specs.declared.limits.TheConstants as limits;
 ghost use Rattle.nona_tree.specs.Entries.{last_of};
 ghost use Rattle.morta_task.specs.Entries.{entered, offers, last, has_stages};
 
@@ -7,7 +8,6 @@ use crate::regions::RegionCode;
 use crate::schemes::Scheme;
 use nona_num::{gap, offset};
 use nona_store::Store;
-use nona_tree::{Loop, Plan};
 use std::marker::Model;
 use std::snapshot::Snapshot;
 
@@ -23,8 +23,7 @@ pub struct Entry {
     turns: u64,
     any: bool,
     pipe: bool,
-    looped: Snapshot<Loop>,
-    plan: Snapshot<Plan>,
+    code: Snapshot<RegionCode>,
     store: Snapshot<Store>,
 }
 
@@ -52,11 +51,11 @@ fn last_index(low: i64, high: i64, turns: u64) -> i64
 }
 
 impl Entry {
-    /// The entry that opens so, to the region of this code, in this store. A loop may take `turns` turns, from 1 to 10^12,
+    /// The entry that opens so, to the region of this code, in this store. A loop may take `turns` turns, from 1 to `TURNS`,
     /// whenever it is entered. Takes constant time: nothing of the loop, the plan or the store is copied.
     pub fn begin(opening: Opening, code: &RegionCode, turns: u64, store: &Store) -> Entry
         requires some_turns { 1 ≤ turns }
-        requires few_turns { turns ≤ 10 ^ 12 }
+        requires few_turns { turns ≤ limits.TURNS }
         ensures { result ≡ entered opening code.now.looped code.now.plan turns store.now }
     {
         let Opening {
@@ -72,10 +71,9 @@ impl Entry {
             high,
             last: last_index(low, high, turns),
             turns,
-            any: code.plan.any,
-            pipe: !code.plan.pipe.is_empty(),
-            looped: Snapshot::of(&code.looped),
-            plan: Snapshot::of(&code.plan),
+            any: code.plan().any,
+            pipe: !code.plan().pipe.is_empty(),
+            code: Snapshot::of(code),
             store: Snapshot::of(store),
         }
     }
@@ -116,11 +114,11 @@ impl Entry {
         self.last
     }
 
-    /// How many turns a loop may take whenever it is entered: from 1 to 10^12.
+    /// How many turns a loop may take whenever it is entered: from 1 to `TURNS`.
     pub fn turns(&self) -> u64
         ensures turns { result ≡ self.now.turns }
         ensures some { 1 ≤ result }
-        ensures few { result ≤ 10 ^ 12 }
+        ensures few { result ≤ limits.TURNS }
     {
         self.turns
     }

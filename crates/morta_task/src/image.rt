@@ -1,39 +1,40 @@
-ghost use Rattle.std.specs.Prelude.{◌≡◌, ◌≤◌, ◌+◌, ◌-◌, ◌<◌, ◌^◌, List, [], ◌∷◌, ◌++◌, length, map, All, IfOk, OnOk, Some, slice_get};
-ghost use Rattle.nona_tree.specs.declared.trees.Loop.{Loop};
-ghost use Rattle.nona_tree.specs.declared.trees.Stmt.{Stmt, For};
+ghost use Rattle.std.specs.Prelude.{◌≡◌, ◌≤◌, ◌+◌, ◌-◌, ◌<◌, ◌^◌, [], length, map, All, IfOk, Some, slice_get};
+ghost use Rattle.nona_tree.specs.declared.trees.Stmt.{For};
 ghost use Rattle.nona_tree.specs.Entries.{regions_all};
 ghost use Rattle.nona_tree.specs.Numbers.{IsI64Stmt};
 ghost use Rattle.nona_tree.specs.Scope.{IsSteady};
 ghost use Rattle.nona_tree.specs.Smallness.{IsSmallLoop};
-ghost use Rattle.morta_task.specs.declared.regions.RegionCode.{RegionCode};
+ghost use Rattle.nona_code.specs.Main.{StandsForMain};
+ghost use Rattle.morta_task.specs.RegionView.{RegionView};
 ghost use Rattle.morta_task.specs.ImageView.{region_places, is_region_of};
-ghost use Rattle.morta_task.specs.InSequence.{image_in_sequence};
+ghost use Rattle.morta_task.specs.ImageKept.{CanRun};
 
-use crate::gather::{gather_all, set_of};
 use crate::regions::RegionCode;
-use nona_tree::{
-    Checked, Stmt, checked_is_scoped, copy_statements, regions_have_places, regions_keep,
-};
+use nona_code::Sound;
+use nona_tree::Stmt;
 use sqlite_items::Items;
 use std::alloc::{AllocError, Global};
 use std::marker::Model;
+use std::snapshot::Snapshot;
 
-/// A program as it is run: its main statements, and its regions with their plans, in text order. Its regions are the loops
-/// whose words `for` stand at its places.
-#[derive(Debug, Drop)]
+/// A program as it is run: the code of its main statements, and its regions with their plans and their code, in text order. Its
+/// regions are the loops whose words `for` stand at its places. Contracts see the main statements and the regions; nothing of
+/// the program's tree is kept when it runs.
+#[derive(Drop)]
 pub struct Image {
-    main: Items<Stmt>,
+    main: Snapshot<Items<Stmt>>,
+    code: Sound,
     regions: Vec<RegionCode>,
     places: Vec<u32>,
 }
 
 /// The places of the words `for` of regions.
 fn places_of(alloc: Global, regions: &[RegionCode]) -> Result<Vec<u32>, AllocError>
-    ensures { IfOk result (λ places. places.items ≡ map (λ (code : RegionCode). code.looped.at) regions.now) }
+    ensures { IfOk result (λ places. places.items ≡ map (λ (region : RegionView). region.looped.at) regions.now) }
 {
     let mut places = Vec::new(alloc);
-    for code in regions {
-        places.push(code.looped.at)?;
+    for region in regions {
+        places.push(region.place())?;
     }
     Ok(places)
 }
@@ -55,42 +56,42 @@ impl Model for Image {
 }
 
 impl Image {
-    /// The image of a checked program whose regions are the loops that places name, from outside in, each of which runs in one
-    /// thread alone. A place where no word `for` stands, or that of a loop inside a region, names none. Takes time and memory
-    /// in proportion to the program and the places. The one error is that memory ran out.
-    pub fn of(alloc: Global, program: &Checked, places: &[u32]) -> Result<Image, AllocError>
-        ensures { IfOk result (λ image. image ≡ image_in_sequence program.now places.now) }
+    /// The image of these main statements, with their code and these regions, which are loops of them, in text order. Nothing
+    /// of the statements is copied. Takes time and memory in proportion to the number of regions. The one error is that memory
+    /// ran out.
+    pub fn assemble(
+        alloc: Global,
+        main: &Items<Stmt>,
+        code: Sound,
+        regions: Vec<RegionCode>,
+    ) -> Result<Image, AllocError>
+        requires { CanRun code.instrs (record { main = main.now; regions = regions.items }) }
+        ensures { IfOk result (λ image. image ≡ record { main = main.now; regions = regions.items }) }
     {
-        checked_is_scoped();
-        regions_keep();
-        regions_have_places();
-        let body = program.program().body.as_slice();
-        let main = copy_statements(body, alloc)?;
-        let mut regions = Vec::new(alloc);
-        gather_all(alloc, body, &set_of(alloc, places)?, &mut regions)?;
         let places = places_of(alloc, &regions)?;
         Ok(Image {
-            main,
+            main: Snapshot::of(main),
+            code,
             regions,
             places,
         })
     }
 
-    /// The main statements.
-    pub fn main(&self) -> &[Stmt]
-        ensures { result.now ≡ self.now.main }
+    /// The code of the main statements, which stops at the regions.
+    pub fn code(&self) -> &Sound
+        ensures { StandsForMain result.now.instrs (is_region_of self.now) self.now.main }
     {
-        self.main.as_slice()
+        &self.code
     }
 
     /// The regions, in text order.
     pub fn regions(&self) -> &[RegionCode]
         ensures regions { result.now ≡ self.now.regions }
-        ensures loops { map (λ (code : RegionCode). code.looped) result.now ≡ regions_all (is_region_of self.now) self.now.main }
+        ensures loops { map (λ (region : RegionView). region.looped) result.now ≡ regions_all (is_region_of self.now) self.now.main }
         ensures few { length result.now + 1 < 2 ^ 32 }
-        ensures steady { All (λ (code : RegionCode). IsSteady (For code.looped) []) result.now }
-        ensures small { All (λ (code : RegionCode). IsSmallLoop code.looped) result.now }
-        ensures numbers { All (λ (code : RegionCode). IsI64Stmt (For code.looped)) result.now }
+        ensures steady { All (λ (region : RegionView). IsSteady (For region.looped) []) result.now }
+        ensures small { All (λ (region : RegionView). IsSmallLoop region.looped) result.now }
+        ensures numbers { All (λ (region : RegionView). IsI64Stmt (For region.looped)) result.now }
     {
         &self.regions
     }

@@ -4,13 +4,13 @@
 
 mod both;
 mod entry;
-mod gather;
 mod image;
 mod intervals;
+mod laws;
+mod limits;
 mod log;
 mod opening;
 mod regions;
-mod reshapable;
 mod schemes;
 mod traits;
 
@@ -18,9 +18,10 @@ pub use both::Both;
 pub use entry::Entry;
 pub use image::Image;
 pub use intervals::{Cut, Handoff, Interval, Ran, Work};
+pub use laws::images_keep;
+pub use limits::{TURNS, WORKERS};
 pub use log::Log;
 pub use opening::Opening;
 pub use regions::RegionCode;
-pub use reshapable::reshapable_places;
 pub use schemes::{Ask, Config, Scheme};
 pub use traits::{Asker, Morta, Runner};

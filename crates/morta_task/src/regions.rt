@@ -1,8 +1,68 @@
-use nona_tree::{Loop, Plan};
+ghost use Rattle.std.specs.Prelude.{◌≡◌};
 
-/// A region of a program: its loop, and the plan of the versions that it has beside `seq`.
-#[derive(Debug, Drop)]
+use nona_tree::{Loop, Plan};
+use nona_units::Units;
+use std::marker::Model;
+use std::snapshot::Snapshot;
+
+/// A region of a program: the code of the statements at the top of its loop's body, and the plan of the versions that it has
+/// beside `seq`. Contracts see the loop and the plan; nothing of the loop's tree is kept when the program runs.
+#[derive(Drop)]
 pub struct RegionCode {
-    pub looped: Loop,
-    pub plan: Plan,
+    looped: Snapshot<Loop>,
+    place: u32,
+    plan: Plan,
+    units: Units,
+}
+
+impl Model for RegionCode {
+    ghost use Rattle.std.specs.Coded.{codes};
+    ghost use Rattle.nona_tree.specs.contracts.trees.Expr as expr;
+    ghost use Rattle.nona_tree.specs.contracts.trees.Stmt as stmt;
+    ghost use Rattle.morta_task.specs.RegionView.{RegionView};
+    ghost use Rattle.morta_task.specs.RegionInside.{region_of, IsRegion};
+
+    ghost Value = { RegionView };
+
+    ghost coded = { Prim.hlevel (codes, expr.the_row.coded, stmt.the_row.coded) };
+
+    ghost view = { region_of };
+
+    ghost invariant = { IsRegion };
+}
+
+impl RegionCode {
+    /// The region of this loop, with a plan, and the code of the statements of its body. Nothing of the loop is copied.
+    pub fn of(looped: &Loop, plan: Plan, units: Units) -> RegionCode
+        requires { units.body ≡ looped.now.body }
+        ensures { result ≡ record { looped = looped.now; plan = plan } }
+    {
+        RegionCode {
+            looped: Snapshot::of(looped),
+            place: looped.at,
+            plan,
+            units,
+        }
+    }
+
+    /// The place of its loop's word `for`.
+    pub fn place(&self) -> u32
+        ensures { result ≡ self.now.looped.at }
+    {
+        self.place
+    }
+
+    /// Its plan.
+    pub fn plan(&self) -> &Plan
+        ensures { result.now ≡ self.now.plan }
+    {
+        &self.plan
+    }
+
+    /// The code of the statements at the top of its loop's body, in text order.
+    pub fn units(&self) -> &Units
+        ensures { result.now.body ≡ self.now.looped.body }
+    {
+        &self.units
+    }
 }

@@ -9,7 +9,7 @@ pub enum Scheme {
     Pipe,
 }
 
-/// In which version, and with how many workers, a loop runs: `Seq` with 1, the others with 1 to 16.
+/// In which version, and with how many workers, a loop runs: `Seq` with 1, the others with 1 to `WORKERS`.
 #[derive(Clone, Copy, Debug, PartialEq, Eq)]
 pub struct Config {
     pub scheme: Scheme,

@@ -13,3 +13,4 @@ pub mod Highest
 pub mod Numbering
 pub mod Resting
 pub mod Allowed
+pub mod MainRuns

@@ -14,6 +14,7 @@ use Rattle.nona_code.specs.declared.instr.Instr.TheVariants as instr
 use Rattle.nona_code.specs.Machine.{State, ended, Next, goes, halts, act, take_one, take_two, where_so, given, given_by, pushed, stored, leave, first_hidden}
 use Rattle.nona_code.specs.Ready.{with_one, with_two, IsThereBy, IsReady}
 use Rattle.nona_code.specs.Rule.{Way, goes_on, takes, puts, leaves, declares, IsNext, IsSound}
+use Rattle.nona_code.specs.Stops.{Follows}
 use Rattle.nona_code.proofs.Nearer.{NotStuck}
 
 one_ready : (P : ℤ → Type 0) (st : List ℤ) (go : ℤ → List ℤ → Next) → ((v : ℤ) (rest : List ℤ) → NotStuck (go v rest) → P v) → NotStuck (take_one st go) → with_one st P
@@ -89,12 +90,6 @@ given_moves_by P (Err t) out m go h = tt
 
 pub given_moves : {A : Type 0} (P : State → Type 0) (o : Result A Trap) (out : ℕ) (m : Memory) (go : A → Next) → ((v : A) → Moves P (go v)) → Moves P (given o out m go)
 given_moves P o out m go h = so_moves P _ _ (given_moves_by P o out m go h)
-
--- a state whose stack is as high as the rule says, and which has as many scalars over base as are declared
-pub record Follows (code : List Instr) (base : ℕ) (s : State) : Type 0 where
-  pub declared : ℕ
-  pub way : Way code s.pc (record { depth = length s.stack; declared = declared })
-  pub scalars : length s.store.scalars ≡ base + declared
 
 follows_by : (code : List Instr) (base : ℕ) (i : Instr) (s t : State) (f : Follows code base s) → slice_get code s.pc ≡ Some i → IsNext i s.pc t.pc
     → length t.stack ≡ length s.stack - takes i + puts i → length t.store.scalars + leaves i ≡ length s.store.scalars + declares i → leaves i ≤ f.declared → Follows code base t

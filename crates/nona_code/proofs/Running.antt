@@ -3,18 +3,19 @@ use Rattle.std.proofs.Common.{◌≡◌, ℕ, zero, suc, ◌+◌, ◌-◌, ◌�
 use Rattle.std.specs.Prelude.{slice_get, slice_index_or, ℤ}
 use Rattle.std.specs.List.{AllByRecursion}
 use Rattle.std.proofs.lemmas.Option.{get_or_from_slice_get}
+use Rattle.nona_tree.specs.Memory.{Memory}
 use Rattle.nona_tree.specs.Deeds.{Deed}
 use Rattle.nona_tree.proofs.DeedLaws.{each_of_both}
 use Rattle.nona_code.specs.declared.instr.Instr.{Instr}
 use Rattle.nona_code.specs.declared.instr.Instr.TheVariants as instr
 use Rattle.nona_code.specs.Machine.{State, Next, goes, act, act_deeds, open_at, step_by, Trace, noting, trace}
 use Rattle.nona_store.specs.Banks.{HasRoom}
-use Rattle.nona_code.specs.Pile.{Pile}
-use Rattle.nona_code.specs.Ready.{HasPlace}
+use Rattle.nona_code.specs.declared.registers.Registers.{Registers}
+use Rattle.nona_code.specs.Ready.{HasPlace, state_of}
 use Rattle.nona_code.specs.Rule.{Way, begins, goes_on, takes, puts}
-use Rattle.nona_code.specs.Stops.{IsOver, Starts}
+use Rattle.nona_code.specs.Stops.{IsOver, Follows, IsOnWay}
 use Rattle.nona_code.proofs.Nearer.{NotStuck, is_at}
-use Rattle.nona_code.proofs.Readiness.{Moves, Follows}
+use Rattle.nona_code.proofs.Readiness.{Moves}
 
 -- the instruction at hand
 pub record IsHere (code : List Instr) (n : ℕ) (s : State) (i : Instr) : Type 0 where
@@ -45,24 +46,35 @@ follows_first code s at_first empty = record {
   scalars = omega arith;
 }
 
-pub has_place : (code : List Instr) (stack : Pile) (room : Option ℕ) (base : ℕ) (i : Instr) (s : State) → Starts code stack room base → Follows code base s → slice_get code s.pc ≡ Some i → HasPlace i room (length s.store.scalars)
-has_place code stack room base instr.Declare s starts f is =
-    let w = goes_on s.pc (s.pc + 1) instr.Declare _ f.way is refl in
-    let e : base + (f.declared - 0 + 1) ≡ length s.store.scalars + 1 = omega (arith, f.scalars) in
-    subst (HasRoom room) e (starts.many (s.pc + 1) _ w)
-has_place code stack room base _ s starts f is = tt
+pub has_place : (code : List Instr) (room : Option ℕ) (r : Registers) (pc : ℕ) (m : Memory) (i : Instr) → IsOnWay code room r pc m → slice_get code pc ≡ Some i → HasPlace i room (length m.scalars)
+has_place code room r pc m instr.Declare w is =
+    let f = w.follows in
+    let on = goes_on pc (pc + 1) instr.Declare _ f.way is refl in
+    let e : w.base + (f.declared - 0 + 1) ≡ length m.scalars + 1 = omega (arith, f.scalars) in
+    subst (HasRoom room) e (w.many (pc + 1) _ on)
+has_place code room r pc m _ w is = tt
 
 -- room is wanted only where an instruction puts more than it takes
-pub room_here : (code : List Instr) (stack : Pile) (room : Option ℕ) (base : ℕ) (i : Instr) (s : State) → Starts code stack room base → Follows code base s → slice_get code s.pc ≡ Some i → length s.stack - takes i + puts i ≤ stack.room
-room_here code stack room base (instr.Push v) s starts f is = starts.high (s.pc + 1) _ (goes_on s.pc (s.pc + 1) (instr.Push v) _ f.way is refl)
-room_here code stack room base (instr.Load id) s starts f is = starts.high (s.pc + 1) _ (goes_on s.pc (s.pc + 1) (instr.Load id) _ f.way is refl)
-room_here code stack room base (instr.Len a) s starts f is = starts.high (s.pc + 1) _ (goes_on s.pc (s.pc + 1) (instr.Len a) _ f.way is refl)
-room_here code stack room base (instr.Bound a w at) s starts f is = starts.high (s.pc + 1) _ (goes_on s.pc (s.pc + 1) (instr.Bound a w at) _ f.way is refl)
-room_here code stack room base (instr.Get a) s starts f is = starts.high (s.pc + 1) _ (goes_on s.pc (s.pc + 1) (instr.Get a) _ f.way is refl)
-room_here code stack room base instr.Neg s starts f is = starts.high (s.pc + 1) _ (goes_on s.pc (s.pc + 1) instr.Neg _ f.way is refl)
-room_here code stack room base instr.Not s starts f is = starts.high (s.pc + 1) _ (goes_on s.pc (s.pc + 1) instr.Not _ f.way is refl)
-room_here code stack room base (instr.Binary op at) s starts f is = starts.high (s.pc + 1) _ (goes_on s.pc (s.pc + 1) (instr.Binary op at) _ f.way is refl)
-room_here code stack room base _ s starts f is = omega (arith, starts.high s.pc _ f.way)
+pub room_here : (code : List Instr) (room : Option ℕ) (r : Registers) (pc : ℕ) (m : Memory) (i : Instr) → IsOnWay code room r pc m → slice_get code pc ≡ Some i → length r.stack.items - takes i + puts i ≤ r.stack.room
+room_here code room r pc m (instr.Push v) w is = w.high (pc + 1) _ (goes_on pc (pc + 1) (instr.Push v) _ w.follows.way is refl)
+room_here code room r pc m (instr.Load id) w is = w.high (pc + 1) _ (goes_on pc (pc + 1) (instr.Load id) _ w.follows.way is refl)
+room_here code room r pc m (instr.Len a) w is = w.high (pc + 1) _ (goes_on pc (pc + 1) (instr.Len a) _ w.follows.way is refl)
+room_here code room r pc m (instr.Bound a b at) w is = w.high (pc + 1) _ (goes_on pc (pc + 1) (instr.Bound a b at) _ w.follows.way is refl)
+room_here code room r pc m (instr.Get a) w is = w.high (pc + 1) _ (goes_on pc (pc + 1) (instr.Get a) _ w.follows.way is refl)
+room_here code room r pc m instr.Neg w is = w.high (pc + 1) _ (goes_on pc (pc + 1) instr.Neg _ w.follows.way is refl)
+room_here code room r pc m instr.Not w is = w.high (pc + 1) _ (goes_on pc (pc + 1) instr.Not _ w.follows.way is refl)
+room_here code room r pc m (instr.Binary op at) w is = w.high (pc + 1) _ (goes_on pc (pc + 1) (instr.Binary op at) _ w.follows.way is refl)
+room_here code room r pc m _ w is = omega (arith, w.high pc _ w.follows.way)
+
+-- one more instruction leads on along the way
+pub on_way : (code : List Instr) (room : Option ℕ) (old new : Registers) (pc to : ℕ) (m l : Memory) → (w : IsOnWay code room old pc m)
+    → new.stack.room ≡ old.stack.room → Follows code w.base (state_of new to l) → IsOnWay code room new to l
+on_way code room old new pc to m l w same f = record {
+  base = w.base;
+  follows = f;
+  high = λ at a is. omega (arith, w.high at a is, same);
+  many = w.many;
+}
 
 pub end_rest : (ds : List Deed) (a b : Trace) → a ≡ noting ds b → b.end ≡ a.end
 end_rest ds a b e = sym (ap (λ (t : Trace). t.end) e)

@@ -1,5 +1,5 @@
 -- A unit runs as its statement.
-use Rattle.std.proofs.Common.{◌≡◌, ℕ, ◌+◌, ◌≤◌, List, [], length, Option, Some, None, ℤ, pos, sym, ap, subst, ◌∙◌, arith}
+use Rattle.std.proofs.Common.{◌≡◌, ℕ, ◌+◌, ◌≤◌, List, [], length, Option, Some, None, ℤ, pos, refl, sym, ap, subst, ◌∙◌, arith}
 use Rattle.std.specs.Prelude.{replicate, drop}
 use Rattle.std.proofs.lemmas.List.{length-replicate}
 use Rattle.std.specs.List.{AllByRecursion}
@@ -14,13 +14,13 @@ use Rattle.nona_code.specs.declared.instr.Instr.{Instr}
 use Rattle.nona_code.specs.declared.registers.Registers.{Registers}
 use Rattle.nona_code.specs.Machine.{State, Halt, ended, region, stuck, Trace, trace, begun, most_steps}
 use Rattle.nona_store.specs.Banks.{HasRoom}
-use Rattle.nona_code.specs.Pile.{Pile}
 use Rattle.nona_code.specs.Ready.{state_of}
 use Rattle.nona_code.specs.Rule.{UsesBelow}
 use Rattle.nona_code.specs.SoundView.{SoundView, IsSoundView}
 use Rattle.nona_code.specs.Stands.{StandsFor, on_cells}
 use Rattle.nona_code.specs.Rested.{IsRested, AreKept}
-use Rattle.nona_code.specs.Stops.{IsOver, KeepsFrom, Starts}
+use Rattle.nona_code.specs.Stops.{IsOver, KeepsFrom, IsOnWay}
+use Rattle.nona_code.proofs.Running.{follows_first}
 
 pub start_is : (f : Registers) (m : Memory) → f.stack.items ≡ [] → f.hidden.items ≡ replicate 256 (pos 0) → f.counters.items ≡ replicate 256 0 → state_of f 0 m ≡ begun m
 start_is f m a b c = λ i. let s : State = record { pc = 0; stack = a i; hidden = b i; counters = c i; store = m } in s
@@ -41,12 +41,14 @@ fewer : (room : Option ℕ) (a b : ℕ) → a ≤ b → HasRoom room b → HasRo
 fewer None a b le h = tt
 fewer (Some r) a b le h = omega (arith, le, h)
 
-pub unit_starts : (v : SoundView) (code : List Instr) (stack : Pile) (room : Option ℕ) (scalars : ℕ) → IsSoundView v → code ≡ v.instrs → stack.items ≡ [] → v.deepest ≤ stack.room → HasRoom room (scalars + v.scalars) → Starts code stack room scalars
-unit_starts v code stack room scalars sound is empty high many =
-    subst (λ c. Starts c stack room scalars) (sym is) (record {
-      empty = empty;
+-- registers with an empty stack stand on a way before the first instruction
+pub unit_starts : (v : SoundView) (code : List Instr) (r : Registers) (room : Option ℕ) (m : Memory) → IsSoundView v → code ≡ v.instrs → r.stack.items ≡ [] → v.deepest ≤ r.stack.room → HasRoom room (length m.scalars + v.scalars) → IsOnWay code room r 0 m
+unit_starts v code r room m sound is empty high many =
+    subst (λ c. IsOnWay c room r 0 m) (sym is) (record {
+      base = length m.scalars;
+      follows = follows_first v.instrs (state_of r 0 m) refl empty;
       high = λ pc a w. omega (arith, sound.deepest.bounds pc a w, high);
-      many = λ pc a w. fewer room (scalars + a.declared) (scalars + v.scalars) (omega (arith, sound.scalars.bounds pc a w)) many;
+      many = λ pc a w. fewer room (length m.scalars + a.declared) (length m.scalars + v.scalars) (omega (arith, sound.scalars.bounds pc a w)) many;
     })
 
 abbrev the_run : Option Halt → Ran → Ran

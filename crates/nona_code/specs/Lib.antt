@@ -8,3 +8,6 @@ pub mod Stands
 pub mod SoundView
 pub mod Units
 pub mod Marked
+pub mod Main
+pub mod MainLeft
+pub mod MainPrints

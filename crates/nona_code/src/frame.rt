@@ -8,7 +8,7 @@ ghost use Rattle.nona_code.specs.Rested.{AreKept, IsRested};
 ghost use Rattle.nona_code.specs.Units.{IsUnit, RunsAs};
 
 use crate::registers::Registers;
-use crate::run::{Stopped, run_on};
+use crate::run::{Stopped, run_from};
 use crate::sound::Sound;
 use nona_store::Bank;
 use nona_tree::{Outcome, TrapKind};
@@ -52,7 +52,14 @@ impl Frame {
     pub fn begin(alloc: Global, code: &Sound) -> Result<Frame, AllocError>
         ensures { IfOk result (λ frame. frame.room ≡ code.now.deepest) }
     {
-        let registers = Registers::begin(alloc, code.deepest() as usize)?;
+        Frame::with_room(alloc, code.deepest())
+    }
+
+    /// A frame with room for so many numbers on its stack. It is refused for want of memory alone.
+    pub fn with_room(alloc: Global, room: u32) -> Result<Frame, AllocError>
+        ensures { IfOk result (λ frame. frame.room ≡ room) }
+    {
+        let registers = Registers::begin(alloc, room as usize)?;
         Ok(Frame { registers })
     }
 
@@ -87,7 +94,7 @@ fn run_code<B: Bank>(registers: &mut Registers, code: &Sound, bank: &mut B, turn
     ensures room { registers.new.stack.room ≡ registers.old.stack.room }
     ensures kept { AreKept code.now.hidden code.now.counters registers.new }
 {
-    match run_on(registers, code.instrs(), bank, turns) {
+    match run_from(registers, code.instrs(), 0, bank, turns) {
         Stopped::Ended(Outcome::Done) => UnitEnd::Done,
         Stopped::Ended(Outcome::Trap(trap)) => UnitEnd::Trap {
             kind: trap.kind,
@@ -98,6 +105,7 @@ fn run_code<B: Bank>(registers: &mut Registers, code: &Sound, bank: &mut B, turn
             number: _,
             low: _,
             high: _,
+            next: _,
         } => unreachable!(),
         Stopped::NoMemory => UnitEnd::NoMemory,
     }

@@ -4,7 +4,7 @@ ghost use Rattle.std.specs.Prelude.{◌≡◌, ◌<◌, ◌^◌, ℕ, length};
 ghost use Rattle.std.specs.List.{AllByRecursion};
 ghost use Rattle.nona_store.specs.Banks.{Allows};
 ghost use Rattle.nona_code.specs.Rule.{IsSound, UsesBelow};
-ghost use Rattle.nona_code.specs.Stops.{IsOver, HasStopped, KeepsFrom, Starts, course};
+ghost use Rattle.nona_code.specs.Stops.{IsOver, HasStopped, IsOnWay, KeepsFrom, course};
 
 use crate::instr::Instr;
 use crate::registers::Registers;
@@ -16,33 +16,47 @@ use nona_tree::Outcome;
 #[derive(Clone, Copy, Debug, PartialEq, Eq)]
 pub enum Stopped {
     Ended(Outcome),
-    Region { number: u32, low: i64, high: i64 },
+    /// `next` is the instruction behind the region.
+    Region {
+        number: u32,
+        low: i64,
+        high: i64,
+        next: usize,
+    },
     NoMemory,
 }
 
-/// Does the instructions from the first on until the code stops.
-pub fn run_on<B: Bank>(
+/// Does the instructions from the one at `pc` on until the code stops.
+pub fn run_from<B: Bank>(
     registers: &mut Registers,
     code: &[Instr],
+    pc: usize,
     bank: &mut B,
     turns: u64,
 ) -> Stopped
     requires small { length code.now < 2 ^ 31 }
     requires sound { IsSound code.now }
-    requires over { IsOver (course code.now turns registers.old (B.state bank.old)).end }
-    requires follows { Starts code.now registers.old.stack (B.limits bank.old).room (length (B.state bank.old).scalars) }
-    requires allowed { AllByRecursion (Allows (B.limits bank.old)) (course code.now turns registers.old (B.state bank.old)).did }
-    ensures stops { HasStopped (course code.now turns registers.old (B.state bank.old)).end result registers.new (B.state bank.new) (B.limits bank.old).firm }
+    requires over { IsOver (course code.now turns registers.old pc (B.state bank.old)).end }
+    requires follows { IsOnWay code.now (B.limits bank.old).room registers.old pc (B.state bank.old) }
+    requires allowed { AllByRecursion (Allows (B.limits bank.old)) (course code.now turns registers.old pc (B.state bank.old)).did }
+    ensures stops { HasStopped (course code.now turns registers.old pc (B.state bank.old)).end result registers.new (B.state bank.new) (B.limits bank.old).firm }
     ensures keeps { (hidden counters : ℕ) → UsesBelow hidden counters code.now → KeepsFrom hidden counters registers.old registers.new }
     ensures limits { B.limits bank.new ≡ B.limits bank.old }
     ensures room { registers.new.stack.room ≡ registers.old.stack.room }
 {
-    let mut pc = 0usize;
+    let mut pc = pc;
     'instrs: loop {
         match do_instr(registers, code[pc], code, pc, bank, turns) {
             Step::On(next) => pc = next,
             Step::Ended(end) => return Stopped::Ended(end),
-            Step::Region { number, low, high } => return Stopped::Region { number, low, high },
+            Step::Region { number, low, high } => {
+                return Stopped::Region {
+                    number,
+                    low,
+                    high,
+                    next: pc + 1,
+                };
+            }
             Step::NoMemory => return Stopped::NoMemory,
         }
     }

@@ -1,6 +1,6 @@
 //! The stack rule, on code by hand, and the room of a frame.
 
-use nona_code::{Frame, Instr, Sound, verify};
+use nona_code::{CodeFrame, Frame, Instr, Sound, verify};
 use nona_tree::Op;
 use std::alloc::{AllocError, Global};
 
@@ -50,11 +50,13 @@ fn code_that_keeps_the_rule_and_code_that_breaks_it(rt: HostRuntime) -> Result<(
 }
 
 #[test]
-fn a_frame_has_the_room_of_its_code(rt: HostRuntime) -> Result<(), AllocError> {
+fn frames_begin_where_memory_is_ample(rt: HostRuntime) -> Result<(), AllocError> {
     let alloc = rt.alloc();
     match verified(alloc, &[Instr::Push(1), Instr::Drop, Instr::Stop])? {
         Some(code) => {
             Frame::begin(alloc, &code)?;
+            Frame::with_room(alloc, 300)?;
+            CodeFrame::begin(alloc, &code)?;
             assert_eq!(rt; code.instrs().len(), 3);
             Ok(())
         }

@@ -24,11 +24,11 @@ expr_fit (Not' p (more_of-Expr e end_of-Expr)) d a named few = expr_fit e d a na
 expr_fit (Binary' op at p (more_of-Expr left end_of-Expr) q (more_of-Expr right end_of-Expr)) d a named few =
     (expr_fit left d a named.0 few, expr_fit right d a named.1 few)
 
-one_more : (b : Bool) (d : ℕ) → (if b then d + 1 else d) ≤ d + 1
+pub one_more : (b : Bool) (d : ℕ) → (if b then d + 1 else d) ≤ d + 1
 one_more true d = omega arith
 one_more false d = omega arith
 
-some_size : (s : Stmt) → 1 ≤ stmt_size s
+pub some_size : (s : Stmt) → 1 ≤ stmt_size s
 some_size (Let x e) = omega arith
 some_size (Set x e) = omega arith
 some_size (Fold x f e) = omega arith

@@ -1,6 +1,12 @@
 pub mod CodeEquations
+pub mod MainEquations
+pub mod MainEmitting
+pub mod MainPlain
 pub mod Fewer
 pub mod Fits
+pub mod Gathering
+pub mod Imaging
+pub mod RegionsCode
 pub mod Emitting
 pub mod Patching
 pub mod Values
@@ -9,7 +15,14 @@ pub mod Opened
 pub mod Steady
 pub mod Turning
 pub mod Indices
+pub mod Claims
+pub mod Stopping
+pub mod Parts
+pub mod Loops
+pub mod Holding
 pub mod Runs
+pub mod MainRuns
+pub mod MainStands
 pub mod Standing
 pub mod Marks
 pub mod Keeping

@@ -22,14 +22,15 @@ use Rattle.nona_gen.proofs.Fits.{code_fits}
 use Rattle.nona_gen.proofs.Values.{at}
 use Rattle.nona_gen.proofs.Lands.{RunsBy, cut_whole}
 use Rattle.nona_gen.proofs.Opened.{lets, stmt_opens}
-use Rattle.nona_gen.proofs.Runs.{Fine, around, stmt_runs}
+use Rattle.nona_gen.proofs.Parts.{Fine, around}
+use Rattle.nona_gen.proofs.Runs.{stmt_runs}
 
 let_depth : (o : Answer) (m : Memory) → (with_value o m (λ v. done (declare v m))).end ≢ outcome.Done → length (with_value o m (λ v. done (declare v m))).store.scalars ≡ length m.scalars
 let_depth (Ok v) m h = absurd (h refl)
 let_depth (Err t) m h = refl
 
 -- a statement that ends otherwise than done leaves as many scalars as there were
-ended_depth : (s : Stmt) (n : ℕ) (m : Memory) → (run s n m).end ≢ outcome.Done → length (run s n m).store.scalars ≡ length m.scalars
+pub ended_depth : (s : Stmt) (n : ℕ) (m : Memory) → (run s n m).end ≢ outcome.Done → length (run s n m).store.scalars ≡ length m.scalars
 ended_depth (Let x e) n m h = let_depth (value_of e m) m h
 ended_depth (Set x e) n m h = same_if_no_let (Set x e) n m refl
 ended_depth (Fold x f e) n m h = same_if_no_let (Fold x f e) n m refl
@@ -53,7 +54,7 @@ stops_by code n b L s q ds m (outcome.OutOfTurns t) is long r =
     let e = cut_whole L m (long (λ p. cc)) in
     record { steps = r.steps; few = omega (arith, r.few); is = λ k. r.is k ∙ ap (λ (x : Memory). let y : Trace = record { end = Some (ended (record { store = x; end = outcome.OutOfTurns t })); did = on_cells ds } in y) e }
 
-none_less : (k : ℕ) → 0 - k ≡ 0
+pub none_less : (k : ℕ) → 0 - k ≡ 0
 none_less k = omega arith
 
 pub unit_stands : (s : Stmt) → HasCode s → StandsFor (unit_code s) s

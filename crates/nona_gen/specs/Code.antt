@@ -171,6 +171,10 @@ abbrev pub head_code : ℕ → ℕ → ℕ → ℕ → List Instr
 head_code target id counter at =
     instr.Load id ∷ instr.Load (high_of counter) ∷ instr.Binary op.Lt at ∷ instr.Zero target ∷ instr.Turn counter at ∷ []
 
+-- what a while does before its body, where the jump to its test isn't written yet
+abbrev pub while_head : ℕ → ℕ → List Instr
+while_head counter at = instr.Enter counter ∷ instr.Jump 0 ∷ instr.Turn counter at ∷ []
+
 -- the code of a unit, which stands alone
 abbrev pub unit_code : Stmt → List Instr
 unit_code s = stmt_code s 0 0 ++ (instr.Stop ∷ [])

@@ -1,3 +1,6 @@
 pub mod Code
 pub mod Fit
+pub mod Gathered
+pub mod MainCode
+pub mod MainParts
 pub mod Units

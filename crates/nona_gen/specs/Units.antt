@@ -1,5 +1,6 @@
 -- Which statements have code that stands alone.
-use Rattle.std.specs.Prelude.{ℕ, ◌+◌, ◌≤◌, []}
+use Rattle.std.specs.Prelude.{ℕ, ◌+◌, ◌≤◌, [], All}
+use Rattle.nona_tree.specs.declared.trees.Loop.{Loop}
 use Rattle.nona_tree.specs.declared.trees.Stmt.{Stmt}
 use Rattle.nona_tree.specs.Numbers.{IsI64Stmt}
 use Rattle.nona_tree.specs.Scope.{IsScoped, IsSteady}
@@ -16,3 +17,7 @@ pub record HasCode (s : Stmt) : Type 0 where
   pub nested : stmt_nesting s ≤ places
   pub steady : IsSteady s []
   pub numbers : IsI64Stmt s
+
+-- each statement at the top of a loop's body has code
+abbrev pub BodyHasCode : Loop → Type 0
+BodyHasCode l = All HasCode l.body

@@ -1,13 +1,15 @@
 //! Units: the code of one statement that stands alone.
 
-ghost use Rattle.std.specs.Prelude.{◌≡◌, All, IfOk};
+ghost use Rattle.std.specs.Prelude.{◌≡◌, Bool, All, IfOk};
+ghost use Rattle.nona_tree.specs.declared.trees.Loop.{Loop};
 ghost use Rattle.nona_tree.specs.declared.trees.Stmt.{Stmt};
 ghost use Rattle.nona_tree.specs.declared.trees.Program.{Program};
 ghost use Rattle.nona_tree.specs.Checking.{IsChecked};
+ghost use Rattle.nona_tree.specs.Entries.{regions_all};
 ghost use Rattle.nona_code.specs.Rule.{IsSound};
 ghost use Rattle.nona_code.specs.Stands.{StandsFor};
 ghost use Rattle.nona_gen.specs.Code.{unit_code};
-ghost use Rattle.nona_gen.specs.Units.{HasCode};
+ghost use Rattle.nona_gen.specs.Units.{HasCode, BodyHasCode};
 
 use crate::emit::put;
 use crate::statements::emit_stmt;
@@ -24,6 +26,13 @@ pub fn code_stands()
 /// Says that each statement at the top of a checked program has code. It does nothing when called.
 pub fn checked_has_code()
     ensures { (p : Program) → IsChecked p → All HasCode p.body }
+{
+    checked_is_scoped();
+}
+
+/// Says that so does each statement at the top of a region's body, whichever loops are chosen. It does nothing when called.
+pub fn regions_have_code()
+    ensures { (p : Program) (chosen : Loop → Bool) → IsChecked p → All BodyHasCode (regions_all chosen p.body) }
 {
     checked_is_scoped();
 }

@@ -37,10 +37,14 @@ Stops left course n (stop.Ended end) m = course ≡ ended m end
 abbrev pub NextStops : (Ran → Course → Type 0) → (Ran → Course → Type 0) → ℕ → Memory → Stop → Memory → Type 0
 NextStops before after n m stop r = (course : Course) → before (done m) course → Stops after course n stop r
 
--- a frame that has stopped at a region can go on
-abbrev pub StaysReady : (ℕ → ℕ → Type 0) → Stop → Memory → Type 0
-StaysReady ready (stop.Region number low high) m = ready (length m.scalars) (length m.arrays)
-StaysReady ready (stop.Ended end) m = Unit {0}
+-- over this store a frame can go on: it has something left to come
+abbrev pub CanGoOn : (Ran → Course → Type 0) → Memory → Type 0
+CanGoOn left m = (course : Course) × left (done m) course
+
+-- in this store a frame can leave the blocks around: it has something left to come behind an end other than done
+abbrev pub CanLeave : (ℕ → Ran → Course → Type 0) → Memory → Type 0
+CanLeave left m =
+    (n : ℕ) × (end : Outcome) × (course : Course) × (end ≢ outcome.Done) × left n (record { store = m; end = end }) course
 
 -- after an end other than done, nothing is left but that the blocks around drop their scalars
 abbrev pub Leaves : (ℕ → Ran → Course → Type 0) → Memory → Memory → Type 0

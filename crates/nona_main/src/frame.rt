@@ -1,8 +1,8 @@
-ghost use Rattle.std.specs.Prelude.{◌≡◌, ℕ, length, IfOk, OnOk};
+ghost use Rattle.std.specs.Prelude.{◌≡◌, ℕ, IfOk, OnOk};
 ghost use Rattle.nona_tree.specs.Memory.{Memory, Extends};
 ghost use Rattle.nona_tree.specs.Run.{Ran};
 ghost use Rattle.nona_main.specs.Course.{Course};
-ghost use Rattle.nona_main.specs.Frame.{NextStops, StaysReady, Leaves, OnlyPrints};
+ghost use Rattle.nona_main.specs.Frame.{CanGoOn, CanLeave, NextStops, Leaves, OnlyPrints};
 
 use nona_store::Store;
 use nona_tree::Outcome;
@@ -21,26 +21,22 @@ pub enum Stop {
 /// What runs the main statements of a program from one region to the next, whatever it reads them from.
 ///
 /// `left` says what is still to come: with a turn bound, and once the region at hand has ended so and left this store,
-/// how the whole run ends and the regions that it comes to. `ready` says for which turn bound, and over a store with how
-/// many scalars and arrays, the frame can go on.
+/// how the whole run ends and the regions that it comes to. A frame for which something is left can go on.
 pub trait MainFrame {
     ghost left: { Self → ℕ → Ran → Course → Type 0 };
-
-    ghost ready: { Self → ℕ → ℕ → ℕ → Type 0 };
 
     /// Goes on from where it last stopped, as the sequential meaning does, to the next region or to the end; each loop may
     /// take `turns` turns whenever it is entered. The whole loop of the region at hand has run before, and is done. An
     /// error comes where memory runs out, and the frame and the store are then spent.
     fn next(&mut self, turns: u64, store: &mut Store) -> Result<Stop, AllocError>
-        requires ready { Self.ready self.old turns (length store.old.scalars) (length store.old.arrays) }
+        requires left { CanGoOn (Self.left self.old turns) store.old }
         ensures stops { IfOk result (λ stop. NextStops (Self.left self.old turns) (Self.left self.new turns) turns store.old stop store.new) }
-        ensures ready { IfOk result (λ stop. StaysReady (Self.ready self.new turns) stop store.new) }
         ensures prints { OnOk result (Extends store.old.printed store.new.printed) };
 
     /// Leaves the blocks around the region at hand, which ended otherwise than done: the scalars that were declared in
     /// them go. The run is then at its end.
     fn leave(&mut self, store: &mut Store)
-        requires fits { (turns : ℕ) × Self.ready self.old turns (length store.old.scalars) (length store.old.arrays) }
+        requires left { CanLeave (Self.left self.old) store.old }
         ensures leaves { Leaves (Self.left self.old) store.old store.new }
         ensures printed { store.new.printed ≡ store.old.printed };
 

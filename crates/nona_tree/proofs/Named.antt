@@ -8,7 +8,7 @@ use Rattle.nona_tree.specs.Entries.{is_among, places_of, loop_with, regions_in, 
 use Rattle.nona_tree.proofs.Regions.{each_of_two}
 
 -- a loop that a test chooses
-abbrev Passes : (Loop → Bool) → Loop → Type 0
+abbrev pub Passes : (Loop → Bool) → Loop → Type 0
 Passes chosen l = chosen l ≡ true
 
 chosen_loop : (chosen : Loop → Bool) (b : Bool) (l : Loop) (inside : List Loop) → chosen l ≡ b → AllByRecursion (Passes chosen) inside
@@ -36,16 +36,16 @@ mutual
   chosen_row chosen (more_of-Stmt s rest) =
       each_of_two (Passes chosen) (regions_in chosen s) (regions_row chosen rest) (chosen_in chosen s) (chosen_row chosen rest)
 
-chosen_all : (chosen : Loop → Bool) (ss : List Stmt) → AllByRecursion (Passes chosen) (regions_all chosen ss)
+pub chosen_all : (chosen : Loop → Bool) (ss : List Stmt) → AllByRecursion (Passes chosen) (regions_all chosen ss)
 chosen_all chosen [] = tt
 chosen_all chosen (s ∷ rest) =
     each_of_two (Passes chosen) (regions_in chosen s) (regions_all chosen rest) (chosen_in chosen s) (chosen_all chosen rest)
 
-front_each : {B : Type 0} (P : B → Type 0) (xs ys : List B) → AllByRecursion P (xs ++ ys) → AllByRecursion P xs
+pub front_each : {B : Type 0} (P : B → Type 0) (xs ys : List B) → AllByRecursion P (xs ++ ys) → AllByRecursion P xs
 front_each P [] ys h = tt
 front_each P (x ∷ xs) ys h = (h.0, front_each P xs ys h.1)
 
-back_each : {B : Type 0} (P : B → Type 0) (xs ys : List B) → AllByRecursion P (xs ++ ys) → AllByRecursion P ys
+pub back_each : {B : Type 0} (P : B → Type 0) (xs ys : List B) → AllByRecursion P (xs ++ ys) → AllByRecursion P ys
 back_each P [] ys h = h
 back_each P (x ∷ xs) ys h = back_each P xs ys h.1
 
@@ -59,7 +59,7 @@ same_loop chosen other false false l ls ms p q only h g = h g
 
 -- where another test chooses each region, and no loop besides what the first test chooses, the regions are the same
 mutual
-  same_in : (chosen other : Loop → Bool) → ((l : Loop) → Passes other l → Passes chosen l) → (s : Stmt)
+  pub same_in : (chosen other : Loop → Bool) → ((l : Loop) → Passes other l → Passes chosen l) → (s : Stmt)
       → AllByRecursion (Passes other) (regions_in chosen s) → regions_in other s ≡ regions_in chosen s
   same_in chosen other only (Let x e) h = refl
   same_in chosen other only (Set x e) h = refl
@@ -75,7 +75,7 @@ mutual
       same_loop chosen other (chosen l) (other l) l (regions_row chosen body) (regions_row other body) refl refl (only l) (same_row chosen other only body) h
   same_in chosen other only (Print e at) h = refl
 
-  same_row : {k : _} (chosen other : Loop → Bool) → ((l : Loop) → Passes other l → Passes chosen l) → (row : Row_of-Stmt k)
+  pub same_row : {k : _} (chosen other : Loop → Bool) → ((l : Loop) → Passes other l → Passes chosen l) → (row : Row_of-Stmt k)
       → AllByRecursion (Passes other) (regions_row chosen row) → regions_row other row ≡ regions_row chosen row
   same_row chosen other only end_of-Stmt h = refl
   same_row chosen other only (more_of-Stmt s rest) h =
@@ -96,7 +96,7 @@ by_place true c places r l same is later h =
     ap (λ (at : ℕ). is_among places (record r { at = at })) (sym (eqb-true r.at l.at same)) ∙ is
 by_place false c places r l same is later h = later h
 
-back_among : (places : List ℕ) (rs : List Loop) (l : Loop) → AllByRecursion (Passes (is_among places)) rs → is_among (places_of rs) l ≡ true → is_among places l ≡ true
+pub back_among : (places : List ℕ) (rs : List Loop) (l : Loop) → AllByRecursion (Passes (is_among places)) rs → is_among (places_of rs) l ≡ true → is_among places l ≡ true
 back_among places [] l h is = cc
 back_among places (r ∷ rs) l h is = by_place (r.at == l.at) (is_among (places_of rs) l) places r l refl h.0 (back_among places rs l h.1) is
 
@@ -112,7 +112,7 @@ or_true : (b c : Bool) → b ≡ true → (b || c) ≡ true
 or_true true c h = refl
 or_true false c h = cc
 
-own_among : (rs : List Loop) → AllByRecursion (Passes (is_among (places_of rs))) rs
+pub own_among : (rs : List Loop) → AllByRecursion (Passes (is_among (places_of rs))) rs
 own_among [] = tt
 own_among (r ∷ rs) = (or_true (r.at == r.at) (is_among (places_of rs) r) (eq-eqb r.at r.at refl), each_more r.at (places_of rs) rs (own_among rs))
 

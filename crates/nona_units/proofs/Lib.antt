@@ -1,1 +1,2 @@
-mod Statements
+pub mod Statements
+pub mod Codes

@@ -1,0 +1,3 @@
+pub mod UnitsView
+pub mod Units
+pub mod UnitsInside

@@ -1,9 +1,11 @@
-//! Runs a program's statements by their code, one after another.
+//! Statements that are compiled one by one, and run by their code.
 //!
-//! Each statement at the top of the program is compiled, runs as one unit over the store, and its code is dropped. What a run
+//! `specs/` says what code stands for which statements (`Units`). Each statement runs as one unit over the store. What a run
 //! leaves and how it ends is what the sequential meaning says.
 #![tactic(auto)]
 
-mod program;
+mod compiled;
+mod running;
 
-pub use program::{run_compiled, run_units};
+pub use compiled::Units;
+pub use running::{leave, run_unit, run_units, turn_units};

@@ -7,10 +7,11 @@ use Rattle.nona_tree.specs.declared.trees.Loop.{Loop}
 use Rattle.nona_tree.specs.declared.trees.Program.{Program}
 use Rattle.nona_tree.specs.Memory.{Memory}
 use Rattle.nona_tree.specs.Run.{Ran, start_of, meaning_of}
-use Rattle.morta_task.specs.declared.regions.RegionCode.{RegionCode}
+use Rattle.morta_task.specs.RegionView.{RegionView}
 use Rattle.morta_task.specs.declared.schemes.Scheme.{Scheme}
 use Rattle.morta_task.specs.declared.schemes.Scheme.TheVariants.{Seq, Any, Pipe}
-use Rattle.morta_task.specs.Entries.{EntryView, seq_plan}
+use Rattle.nona_stages.specs.Seen.{seq_plan}
+use Rattle.morta_task.specs.Entries.{EntryView}
 use Rattle.morta_task.specs.ImageView.{ImageView}
 use Rattle.morta_task.specs.InSequence.{in_sequence}
 use Rattle.morta_task.specs.LogView.{LogView}
@@ -35,9 +36,9 @@ use Rattle.parcae.specs.Due.{replay_image, entries_in, DueOfDrive, drive_full, d
 use Rattle.parcae.proofs.Ending.{ends_behind}
 
 -- each region of a program in sequence has the plan of `seq` alone
-in_seq_at : (loops : List Loop) (k : ℕ) (code : RegionCode) → slice_get (map in_sequence loops) k ≡ Some code → code.plan ≡ seq_plan
+in_seq_at : (loops : List Loop) (k : ℕ) (code : RegionView) → slice_get (map in_sequence loops) k ≡ Some code → code.plan ≡ seq_plan
 in_seq_at [] k code e = cc
-in_seq_at (l ∷ loops) zero code e = let is : in_sequence l ≡ code = cc in ap (λ (c : RegionCode). c.plan) (sym is)
+in_seq_at (l ∷ loops) zero code e = let is : in_sequence l ≡ code = cc in ap (λ (c : RegionView). c.plan) (sym is)
 in_seq_at (l ∷ loops) (suc k) code e = in_seq_at loops k code e
 
 -- a plan of `seq` alone has no other version
@@ -82,6 +83,11 @@ ends_full tree es ran stands memory asked log a b c f g h told s stops le sends 
 abbrev pub beginning : Memory → ℕ → Beginning
 beginning m n = record { store = m; turns = n }
 
+-- the run of a program's image is its meaning
+pub run_is : (p : Program) (input : List ℤ) (n : ℕ) (image : ImageView) (from : Beginning) → image ≡ replay_image p → from ≡ beginning (start_of p input) n
+    → run_from image from ≡ meaning_of p input n
+run_is p input n image from image_is from_is = ap (λ (i : ImageView). run_from i from) image_is ∙ ap (run_from (replay_image p)) from_is
+
 -- what a replay begins with
 pub record Begins (p : Program) (input : List ℤ) (n : ℕ) (commands : List Order) (image : ImageView) (from : Beginning) (w : WeaveView) : Type 0 where
   pub image_is : image ≡ replay_image p
@@ -97,7 +103,7 @@ entries_are p input n commands image from w b = ap (λ (i : ImageView). entries_
 -- its run is the meaning of its program
 pub runs_are : (p : Program) (input : List ℤ) (n : ℕ) (commands : List Order) (image : ImageView) (from : Beginning) (w : WeaveView)
     → Begins p input n commands image from w → run_from image from ≡ meaning_of p input n
-runs_are p input n commands image from w b = ap (λ (i : ImageView). run_from i from) b.image_is ∙ ap (run_from (replay_image p)) b.from_is
+runs_are p input n commands image from w b = run_is p input n image from b.image_is b.from_is
 
 -- where it stops short, so does the program's run
 pub stops_of : (p : Program) (input : List ℤ) (n : ℕ) (commands : List Order) (image : ImageView) (from : Beginning) (w : WeaveView) (log : LogView) (sent : Sent) (f : DriveFault)

@@ -2,6 +2,7 @@
 #![tactic(auto)]
 
 mod files;
+mod images;
 mod laws;
 mod refusal;
 mod replays;

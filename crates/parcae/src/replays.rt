@@ -1,33 +1,26 @@
-ghost use Rattle.std.specs.Prelude.{◌≡◌, ◌≤◌, ◌^◌, length, All, IfOk};
+ghost use Rattle.std.specs.Prelude.{◌≡◌, ◌≤◌, ◌^◌, length, All};
 ghost use Rattle.fate_io.specs.Sending.{sent_since};
 ghost use Rattle.nona_tree.specs.Numbers.{IsI64};
 ghost use Rattle.nona_store.specs.Input.{number_bound};
 ghost use Rattle.weave.specs.Following.{AreCommands};
 ghost use Rattle.parcae.specs.Told.{told_of};
 ghost use Rattle.parcae.specs.Ends.{Ends};
-ghost use Rattle.parcae.specs.Due.{replay_image, DueOfReplay};
+ghost use Rattle.parcae.specs.Due.{DueOfReplay};
 
+use crate::images::replay_image;
 use crate::report::{Report, bare, logged, once_sent};
 use crate::runs::{Asked, declared_stays, finish};
 use crate::status::Status;
 use fate_io::{Sink, send};
 use morta_exec::{Beginning, DriveFault, drive};
-use morta_task::{Image, Log, reshapable_places};
+use morta_task::Log;
 use nona_store::Store;
 use nona_tree::{Checked, checked_is_scoped};
-use std::alloc::{AllocError, Global};
+use std::alloc::Global;
 use weave::{Script, Weave};
 
 /// How many messages a link holds.
 const CAPACITY: usize = 4;
-
-/// The image of a program whose regions are all loops that may run in other versions, each of which runs in one thread alone.
-fn replay_image(alloc: Global, program: &Checked) -> Result<Image, AllocError>
-    ensures { IfOk result (λ image. image ≡ replay_image program.now) }
-{
-    let places = reshapable_places(alloc, program)?;
-    Image::of(alloc, program, &places)
-}
 
 /// Replays a script over a program and an input, and writes its numbers, its outcome, and its memory and its log where they
 /// are asked for; or that the log is full, behind the numbers that were printed up to there.

@@ -10,14 +10,15 @@ ghost use Rattle.parcae.specs.Told.{told_of, ran_of, finished};
 ghost use Rattle.parcae.specs.Ends.{Ends, SendsReport};
 ghost use Rattle.parcae.specs.Due.{where_asked, behind_numbers, DueOfSeq};
 
+use crate::images::replay_image;
 use crate::report::{Report, bare, broken_status, finished, once_sent};
 use crate::status::Status;
 use fate_io::{SendFault, Sink};
+use morta_exec::{Beginning, run_through};
 use morta_task::Log;
-use morta_text::{put_numbers, send_log, send_memory, send_outcome};
+use morta_text::{send_log, send_memory, send_outcome};
 use nona_store::{Ended, Store};
-use nona_tree::{Checked, Program, lengths_stay, scalars_stay};
-use nona_walk::run_checked;
+use nona_tree::{Checked, Program, checked_is_scoped, lengths_stay, scalars_stay};
 use std::alloc::Global;
 
 /// What is asked of a run: how many turns a loop may take whenever it is entered, and whether the memory and the log are
@@ -123,7 +124,8 @@ pub fn declared_stays()
     lengths_stay();
 }
 
-/// Runs a program over an input in one thread, and writes its numbers, its outcome, and its memory where that is asked for.
+/// Runs a program over an input in one thread, and writes its numbers as they come, and then its outcome, and its memory where
+/// that is asked for.
 pub fn run_in_sequence<K: Sink>(
     alloc: Global,
     program: &Checked,
@@ -134,21 +136,30 @@ pub fn run_in_sequence<K: Sink>(
 ) -> Report
     requires few { length input.items ≤ number_bound }
     requires numbers { All IsI64 input.items }
-    ensures { Ends (DueOfSeq program.now (meaning_of program.now input.items turns) memory) (sent_since K.written K.faults out.old out.new) (told_of result) }
+    requires some_turns { 1 ≤ turns }
+    requires few_turns { turns ≤ 10 ^ 12 }
+    ensures { Ends (DueOfSeq program.now (meaning_of program.now input.items turns) memory)
+        (sent_since K.written K.faults out.old out.new) (told_of result) }
 {
+    checked_is_scoped();
     declared_stays();
-    match run_checked(alloc, program, input, turns) {
-        Ok(run) => match put_numbers(alloc, run.store.printed(), out) {
-            Ok(()) => {
-                let asked = Asked {
-                    turns,
-                    memory,
-                    log: false,
-                };
-                finish(alloc, program.program(), run, Log::new(alloc), asked, out)
-            }
-            Err(fault) => bare(alloc, broken_status(fault)),
-        },
-        Err(_) => bare(alloc, Status::NoMemory),
+    let tree = program.program();
+    let Ok(image) = replay_image(alloc, program) else {
+        return bare(alloc, Status::NoMemory);
+    };
+    let Ok(store) = Store::start(alloc, program, input) else {
+        return bare(alloc, Status::NoMemory);
+    };
+    let from = Beginning { store, turns };
+    match run_through(alloc, &image, from, out) {
+        Ok(run) => {
+            let asked = Asked {
+                turns,
+                memory,
+                log: false,
+            };
+            finish(alloc, tree, run, Log::new(alloc), asked, out)
+        }
+        Err(fault) => bare(alloc, broken_status(fault)),
     }
 }

@@ -19,6 +19,8 @@ use std::alloc::Global;
 
 /// The command `seq`: runs a program in one thread.
 fn seq<S: Shelf, K: Sink>(alloc: Global, run: Run<'_>, shelf: &mut S, out: &mut K) -> Report
+    requires some_turns { 1 ≤ run.turns }
+    requires few_turns { run.turns ≤ TURN_LIMIT }
     ensures same { S.held shelf.new ≡ S.held shelf.old }
     ensures answers { Answers (Some (seq (task_of run.entry)))
         (looked_since S.held S.failed shelf.old shelf.new)

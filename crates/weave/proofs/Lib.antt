@@ -1,4 +1,5 @@
 pub mod SeqLaws
+pub mod UnitSteps
 pub mod Counts
 pub mod Sound
 pub mod RunsOut

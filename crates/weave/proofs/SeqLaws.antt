@@ -1,5 +1,5 @@
 -- The machine of an interval under `seq` has what one thread has.
-use Rattle.std.proofs.Common.{◌≡◌, ◌≢◌, ◌<◌, ◌≤◌, ◌+◌, ◌-◌, ◌*◌, ℕ, ℤ, pos, ◌+ℤ◌, Bool, true, false, List, [], ◌∷◌, length, map, refl, sym, ap, subst₂, ◌∙◌, arith, inl, inr, if◌then◌else◌, length-append}
+use Rattle.std.proofs.Common.{◌≡◌, ◌≢◌, ◌<◌, ◌≤◌, ◌+◌, ◌-◌, ◌*◌, ℕ, ℤ, pos, ◌+ℤ◌, Bool, true, false, List, [], ◌∷◌, length, map, refl, sym, ap, subst, subst₂, ◌∙◌, arith, inl, inr, if◌then◌else◌, length-append}
 use Rattle.std.proofs.lemmas.List.{length-map}
 use Rattle.nona_tree.specs.declared.outcomes.Outcome.{Outcome}
 use Rattle.nona_tree.specs.declared.outcomes.Outcome.TheVariants as outcome
@@ -8,11 +8,11 @@ use Rattle.nona_tree.specs.Memory.{Memory, declare, cut_to}
 use Rattle.nona_tree.specs.Run.{Ran as Run, done, then_do, run, run_all}
 use Rattle.nona_tree.specs.Scope.{AreScoped}
 use Rattle.nona_tree.proofs.Depth.{turns_depth}
+use Rattle.nona_tree.proofs.Equations.{scoped-For}
 use Rattle.nona_tree.proofs.EntryLaws.{after_one_more, after_stays}
 use Rattle.nona_tree.proofs.Keeps.{SameArrays, arrays_kept, turns_kept}
 use Rattle.nona_tree.proofs.Turns.{end_stays}
-use Rattle.nona_walk.proofs.Counts.{after_statement}
-use Rattle.nona_walk.proofs.Parts.{in_for}
+use Rattle.nona_units.proofs.Statements.{after_statement}
 use Rattle.morta_task.specs.Entries.{EntryView, IsEntered, loop_of, state_after}
 use Rattle.weave.specs.SeqNet.{SeqNet, Stand, Claims, Unit_of, Finished, at_units, is_granted, behind_unit, step_at, moved, is_finished}
 use Rattle.weave.specs.SeqState.{InIteration, StandsAt, moves_at, moves_left}
@@ -95,7 +95,7 @@ body_scoped e k begun index entered ready =
     ∙ ap length (turns_kept SameArrays arrays_kept e.looped.body e.turns e.low k e.store)
     ∙ length-map e.store.arrays length in
     let one : length (declare index begun).scalars ≡ length e.store.scalars + 1 = omega (arith, depth, length-append begun.scalars (index ∷ [])) in
-    subst₂ (λ (d a : ℕ). AreScoped e.looped.body d a) (sym one) (sym arrays) (in_for _ e.looped _ _ refl entered.scoped).3
+    subst₂ (λ (d a : ℕ). AreScoped e.looped.body d a) (sym one) (sym arrays) (subst (λ P. P) (scoped-For e.looped (length e.store.scalars) (length e.store.arrays)) entered.scoped).3
 
 -- before these units, or behind the last of them
 stands_before : (units : List Stmt) (net : SeqNet) (k : ℕ) → net.before + net.granted ≡ k + 1 → InIteration net.entry k units net.store → 1 ≤ net.granted

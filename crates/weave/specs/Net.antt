@@ -1,9 +1,10 @@
 -- The machine of an interval under `seq`, as it is kept.
-use Rattle.std.specs.Prelude.{◌≡◌, ℕ, ◌<◌, ◌≤◌, ◌^◌, pos, ◌+ℤ◌, FitsSigned, List, [], ◌∷◌, drop, length}
+use Rattle.std.specs.Prelude.{◌≡◌, ℕ, ◌<◌, ◌≤◌, pos, ◌+ℤ◌, FitsSigned, List, [], ◌∷◌, drop, length}
 use Rattle.std.specs.Int.{w64}
 use Rattle.nona_tree.specs.declared.trees.Stmt.{Stmt}
 use Rattle.nona_tree.specs.Memory.{Memory, cut_to}
 use Rattle.morta_task.specs.Entries.{IsEntered, before}
+use Rattle.morta_task.specs.declared.limits.TheConstants.{TURNS}
 use Rattle.weave.specs.declared.net.Position.{Position}
 use Rattle.weave.specs.declared.net.Position.TheVariants as place
 use Rattle.weave.specs.declared.net.Net.{Net}
@@ -40,23 +41,24 @@ net_of n = record {
   limit = n.limit;
   granted = n.granted;
   paused = n.paused;
-  place = stand_of n.units.now n.place;
+  place = stand_of n.units.now.body n.place;
   store = n.store;
   end = n.end;
   moves = n.moves;
 }
 
--- what stands of it at each step: its units are those of the entry's loop; the scalars around them are those of the entry's
+-- what stands of it at each step: its units are those of the entry's loop, and its frame has room for them; the scalars around them are those of the entry's
 -- store; it begins at an index of the entry, and each index up to its limit is a number of 64 bits; the limit is at most
--- 10^12; and its place is one of its units
+-- as many turns as a loop may have; and its place is one of its units
 pub record IsSet (n : Net) : Type 0 where
   pub entered : IsEntered n.entry.now
-  pub units : n.units.now ≡ n.entry.now.looped.body
+  pub units : n.units.now.body ≡ n.entry.now.looped.body
+  pub room : n.units.now.room ≤ n.frame.room
   pub depth : n.depth ≡ length n.entry.now.store.scalars
   pub from : n.from ≡ n.entry.now.low +ℤ pos (before n.entry.now n.from)
   pub fits : (k : ℕ) → k ≤ n.limit → FitsSigned w64 (n.from +ℤ pos k)
-  pub few : n.limit ≤ 10 ^ 12
-  pub place : IsPlace n.units.now n.place
+  pub few : n.limit ≤ TURNS
+  pub place : IsPlace n.units.now.body n.place
 
 -- it has what one thread has there
 pub record IsNet (n : Net) : Type 0 where

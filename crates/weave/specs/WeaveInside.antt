@@ -2,6 +2,7 @@
 use Rattle.std.specs.Prelude.{◌≡◌, ◌⊎◌, ◌≤◌, drop}
 use Rattle.morta_task.specs.declared.schemes.Scheme.TheVariants.{Seq}
 use Rattle.morta_task.specs.Running.{IsConfig}
+use Rattle.weave.specs.declared.limits.TheConstants.{CAPACITY}
 use Rattle.weave.specs.declared.weaving.Weave.TheInside.{Inside}
 use Rattle.weave.specs.Following.{AreCommands}
 use Rattle.weave.specs.Replay.{UsesScheme}
@@ -17,10 +18,10 @@ view_of a = record {
 }
 
 -- its commands have their numbers in range; the current configuration is one thread or what a command of the script says;
--- and a link holds 1 to 64 messages
+-- and a link holds at least one message and no more than it may
 pub record IsWeave (a : Inside) : Type 0 where
   pub commands : AreCommands a.script.commands.items
   pub current : IsConfig a.current
   pub named : (a.current.scheme ≡ Seq) ⊎ UsesScheme a.script.commands.items a.current.scheme
   pub some : 1 ≤ a.capacity
-  pub few : a.capacity ≤ 64
+  pub few : a.capacity ≤ CAPACITY

@@ -4,10 +4,12 @@
 
 mod following;
 mod laws;
+mod limits;
 mod net;
 mod script;
 mod weaving;
 
 pub use laws::{replays_agree, runs_out_to_one, seq_moves};
+pub use limits::{CAPACITY, LAST_TASK, MOVES};
 pub use script::{Command, Script};
 pub use weaving::Weave;

@@ -1,6 +1,6 @@
 //! The machine of an interval under `seq`.
 
-ghost use Rattle.std.specs.Prelude.{◌≡◌, ◌≤◌, drop, false, OnOk};
+ghost use Rattle.std.specs.Prelude.{◌≡◌, ◌≤◌, drop, false, IfOk, OnOk};
 ghost use Rattle.std.specs.Int.{int_gap};
 ghost use Rattle.morta_task.specs.Entries.{IsEntered, before, last};
 ghost use Rattle.morta_task.specs.Running.{IsHandoff};
@@ -10,10 +10,11 @@ ghost use Rattle.weave.specs.declared.net.Position.TheVariants as place;
 ghost use Rattle.weave.specs.Net.{place_before, store_before, stand_of, IsPlace, net_of, IsSet, IsNet};
 
 use morta_task::{Cut, Entry, Handoff, Ran, Work};
+use nona_code::Frame;
 use nona_num::offset;
 use nona_store::Store;
-use nona_tree::{Loop, Outcome, Stmt};
-use nona_walk::{leave, walk};
+use nona_tree::Outcome;
+use nona_units::{Units, leave, run_unit};
 use std::alloc::AllocError;
 
 /// Where the task stands.
@@ -32,7 +33,8 @@ pub enum Position {
 #[derive(Drop)]
 pub struct Net<'a> {
     entry: &'a Entry,
-    units: &'a [Stmt],
+    units: &'a Units,
+    frame: Frame,
     /// How many scalars there are around an iteration.
     depth: usize,
     /// The index of the first iteration.
@@ -51,12 +53,12 @@ pub struct Net<'a> {
 
 /// The place before the unit with this number. Behind the last one it is that before a claim, and the scalars behind the
 /// first `depth` go.
-fn arrive(units: &[Stmt], at: usize, depth: usize, store: &mut Store) -> Position
-    ensures place { stand_of units.now result ≡ place_before (drop at units.now) }
-    ensures store { store.new ≡ store_before depth (drop at units.now) store.old }
-    ensures number { IsPlace units.now result }
+fn arrive(units: &Units, at: usize, depth: usize, store: &mut Store) -> Position
+    ensures place { stand_of units.now.body result ≡ place_before (drop at units.now.body) }
+    ensures store { store.new ≡ store_before depth (drop at units.now.body) store.old }
+    ensures number { IsPlace units.now.body result }
 {
-    if at < units.len() {
+    if at < units.count() {
         Position::Unit(at)
     } else {
         leave(depth, store);
@@ -65,22 +67,29 @@ fn arrive(units: &[Stmt], at: usize, depth: usize, store: &mut Store) -> Positio
 }
 
 impl<'a> Net<'a> {
-    /// The machine of an interval of an entry to this loop: it begins where the handoff stands, and grants up to `limit`
-    /// iterations. Nothing is copied.
-    pub fn begin(entry: &'a Entry, looped: &'a Loop, handoff: Handoff, limit: u64) -> Net<'a>
+    /// The machine of an interval of an entry to a loop of these units: it begins where the handoff stands, and grants up to
+    /// `limit` iterations. Nothing is copied; a frame is made, which takes constant time. An error comes where memory runs out.
+    pub fn begin(
+        entry: &'a Entry,
+        units: &'a Units,
+        handoff: Handoff,
+        limit: u64,
+    ) -> Result<Net<'a>, AllocError>
         requires entered { IsEntered entry.now }
-        requires looped { looped.now ≡ entry.now.looped }
+        requires units { units.now.body ≡ entry.now.looped.body }
         requires state { IsHandoff entry.now handoff }
         requires room { limit ≤ int_gap handoff.next (last entry.now) }
-        ensures net { net_of result ≡ begun_net entry.now (before entry.now handoff.next) limit handoff.store }
-        ensures sound { IsNet result }
+        ensures net { IfOk result (λ net. net_of net ≡ begun_net entry.now (before entry.now handoff.next) limit handoff.store) }
+        ensures sound { IfOk result IsNet }
     {
+        let frame = units.frame()?;
         let Handoff { next, store } = handoff;
         let _last = entry.last();
         let _turns = entry.turns();
-        Net {
+        Ok(Net {
             entry,
-            units: looped.body.as_slice(),
+            units,
+            frame,
             depth: store.depth(),
             from: next,
             limit,
@@ -90,7 +99,7 @@ impl<'a> Net<'a> {
             store,
             end: Outcome::Done,
             moves: 0,
-        }
+        })
     }
 
     /// Whether the task has finished.
@@ -137,7 +146,7 @@ impl<'a> Net<'a> {
         ensures set { OnOk result (IsSet self.new) }
     {
         let turns = self.entry.turns();
-        match walk(&self.units[at], turns, &mut self.store)? {
+        match run_unit(self.units, at, &mut self.frame, turns, &mut self.store)? {
             Outcome::Done => {
                 self.place = arrive(self.units, at + 1, self.depth, &mut self.store);
             }

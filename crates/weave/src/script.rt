@@ -4,9 +4,9 @@ use morta_task::Config;
 #[derive(Clone, Copy, Debug, PartialEq, Eq)]
 pub enum Command {
     /// The next interval, and those behind it up to the next `use`, run in this configuration; the next one ends after
-    /// `until` iterations, 1 to 10^12, where that is said. An interval that runs where this comes first is paused.
+    /// `until` iterations, 1 to `morta_task::TURNS`, where that is said. An interval that runs where this comes first is paused.
     Use { config: Config, until: Option<u64> },
-    /// A task, 0 to 255, steps until it has moved `moves` times, 1 to 10^6, has waited once, or has finished.
+    /// A task, 0 to `LAST_TASK`, steps until it has moved `moves` times, 1 to `MOVES`, has waited once, or has finished.
     Step { task: u32, moves: u64 },
     /// The interval is paused: no claim is granted any more.
     Pause,

@@ -5,6 +5,7 @@ ghost use Rattle.std.specs.Int.{int_gap};
 ghost use Rattle.morta_task.specs.declared.schemes.Scheme.TheVariants.{Seq};
 ghost use Rattle.morta_task.specs.Entries.{IsEntered, last};
 ghost use Rattle.morta_task.specs.Running.{IsHandoff, IsDone, HandsOn, seq_one};
+ghost use Rattle.weave.specs.declared.limits.TheConstants as limits;
 ghost use Rattle.weave.specs.Following.{AreCommands};
 ghost use Rattle.weave.specs.Replay.{commands_left, IsReplayed};
 ghost use Rattle.weave.specs.Asking.{IsNoUse, IsUseAt};
@@ -15,7 +16,7 @@ use crate::following::follow;
 use crate::net::Net;
 use crate::script::{Command, Script};
 use morta_task::{Ask, Asker, Config, Entry, Handoff, Image, Interval, Morta, Ran, Runner};
-use nona_tree::Loop;
+use nona_units::Units;
 use std::alloc::AllocError;
 use std::marker::Model;
 
@@ -60,11 +61,11 @@ impl Model for Weave {
 
 impl Weave {
     /// The replay of a script from its first command on, in one thread until a `use` says otherwise. Each number in the script
-    /// is in its range. A link between two tasks holds `capacity` messages, 1 to 64; under `seq` there is none.
+    /// is in its range. A link between two tasks holds `capacity` messages, 1 to `CAPACITY`; under `seq` there is none.
     pub fn new(script: Script, capacity: usize) -> Weave
         requires commands { AreCommands script.commands.items }
         requires some { 1 ≤ capacity }
-        requires few { capacity ≤ 64 }
+        requires few { capacity ≤ limits.CAPACITY }
         ensures { result ≡ record { script = script.commands.items; left = script.commands.items; current = seq_one; capacity = capacity } }
     {
         Weave {
@@ -75,20 +76,20 @@ impl Weave {
         }
     }
 
-    /// How many messages a link holds: 1 to 64.
+    /// How many messages a link holds: 1 to `CAPACITY`.
     pub fn capacity(&self) -> usize
         ensures value { result ≡ self.now.capacity }
         ensures some { 1 ≤ result }
-        ensures few { result ≤ 64 }
+        ensures few { result ≤ limits.CAPACITY }
     {
         self.capacity
     }
 
-    /// Runs an interval of an entry to this loop in one thread: the commands are followed, and then the task steps until it has
+    /// Runs an interval of an entry to a loop of these units in one thread: the commands are followed, and then the task steps until it has
     /// finished. An error comes where memory runs out: the handoff is then spent.
     pub(crate) fn run_in_sequence(
         &mut self,
-        looped: &Loop,
+        units: &Units,
         entry: &Entry,
         handoff: Handoff,
         config: Config,
@@ -96,7 +97,7 @@ impl Weave {
     ) -> Result<(Handoff, Ran), AllocError>
         requires seq { config.scheme ≡ Seq }
         requires entered { IsEntered entry.now }
-        requires looped { looped.now ≡ entry.now.looped }
+        requires units { units.now.body ≡ entry.now.looped.body }
         requires state { IsHandoff entry.now handoff }
         requires room { limit ≤ int_gap handoff.next (last entry.now) }
         ensures done { IfOk result (λ r. IsDone entry.now config handoff.next limit r.1) }
@@ -105,7 +106,7 @@ impl Weave {
         ensures left { OnOk result (self.new ≡ record self.old { left = commands_left self.old.capacity config entry.now handoff.next limit self.old.left }) }
     {
         let _ = config;
-        let mut net = Net::begin(entry, looped, handoff, limit);
+        let mut net = Net::begin(entry, units, handoff, limit)?;
         self.at = follow(&self.script.commands, self.at, &mut net)?;
         net.run_out()?;
         Ok(net.finish())
@@ -130,7 +131,7 @@ impl Runner for Weave {
         limit: u64,
     ) -> Result<(Handoff, Ran), AllocError> {
         let code = image.region(entry.region());
-        let done = self.run_in_sequence(&code.looped, entry, handoff, config, limit)?;
+        let done = self.run_in_sequence(code.units(), entry, handoff, config, limit)?;
         Ok(done)
     }
 }

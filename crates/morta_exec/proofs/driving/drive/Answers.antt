@@ -1,5 +1,5 @@
 use Rattle.std.proofs.Common.{sym}
-use Rattle.nona_frame.specs.Left.{left_of}
+use Rattle.nona_code.specs.MainLeft.{IsLeft}
 use Rattle.morta_task.specs.ImageView.{is_region_of}
 use Rattle.fate_io.specs.Sending.{sent_since}
 use Rattle.morta_exec.specs.Puts.{HasPut}
@@ -13,11 +13,11 @@ pub drive_frame-requires-clause-between : goal.drive_frame-requires-clause-betwe
 drive_frame-requires-clause-between g c =
     let n = c.args.from.turns in
     let image = c.args.image.now in
-    let left = left_of c.in_ok-frame.frame n in
+    let left = IsLeft c.in_ok-frame.frame n in
     moved (λ x y z. Between g.M.Morta.promise left (begins image n x y) c.args.morta.now c.args.from.store c.args.log.now)
     c.args.from.store c.of.result.value c.args.morta.now c.of-2.result.value c.args.out.now c.of-3.result.value (sym c.of.ensures) (sym c.of-2.ensures) (sym c.of-3.ensures)
     (between_first g.M.Morta.promise left (begins image n c.args.from.store c.args.morta.now) c.args.log.now
-    g.met.M.Asker.stands_only c.requires.empty c.requires.stands c.requires.printed (c.in_ok-frame.ensures.left n c.args.from.store)
+    g.met.M.Asker.stands_only c.requires.empty c.requires.stands c.requires.printed (c.in_ok-frame.ensures n c.args.from.store c.requires.scoped c.is_kept.ensures.numbers)
     (c.entries_are_regions.ensures (is_region_of image) image.main n c.args.from.store))
 
 pub drive_frame-requires-clause-put : goal.drive_frame-requires-clause-put
@@ -25,9 +25,6 @@ drive_frame-requires-clause-put g c =
     moved (λ x y z. HasPut (sent_since g.K.Sink.written g.K.Sink.faults z c.args.out.now) c.args.from.store.printed)
     c.args.from.store c.of.result.value c.args.morta.now c.of-2.result.value c.args.out.now c.of-3.result.value (sym c.of.ensures) (sym c.of-2.ensures) (sym c.of-3.ensures)
     (put_first c.args.from.store (g.K.Sink.written c.args.out.now) (g.K.Sink.faults c.args.out.now) c.requires.printed)
-
-pub drive_frame-requires-clause-ready : goal.drive_frame-requires-clause-ready
-drive_frame-requires-clause-ready g c = c.in_ok-frame.ensures.ready c.args.from.turns _ _ c.requires.scoped
 
 pub returns-in_err-frame-clause-stops : goal.returns-in_err-frame-clause-stops
 returns-in_err-frame-clause-stops g c =

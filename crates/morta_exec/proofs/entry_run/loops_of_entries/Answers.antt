@@ -9,6 +9,4 @@ returns c = loops_are (record {
   next = c.after_next.ensures.next;
   stays = c.after_next.ensures.stays;
   grows = c.printed_grows.ensures.turns;
-  scalars = c.scalars_stay.ensures.turns;
-  lengths = c.lengths_stay.ensures.turns;
 })

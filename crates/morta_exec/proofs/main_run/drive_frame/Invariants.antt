@@ -11,7 +11,6 @@ abbrev pub invariant-loop-after : goal.invariant-loop-after
 invariant-loop-after g l = record {
   between : Between g.M.Morta.promise (g.F.MainFrame.left l.frame l.start.turns) (began l.start) l.morta l.store l.log;
   put : HasPut (sent_since g.K.Sink.written g.K.Sink.faults l.start.out.value l.out) l.store.printed;
-  ready : g.F.MainFrame.ready l.frame l.start.turns (length l.store.scalars) (length l.store.arrays);
 }
 
 abbrev pub decreases-loop-after : goal.decreases-loop-after

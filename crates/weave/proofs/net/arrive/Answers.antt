@@ -8,6 +8,6 @@ stays : (depth : ℕ) (units : List Stmt) (m : Memory) → 0 < length units → 
 stays depth [] m h = absurd (omega (arith, h))
 stays depth (s ∷ rest) m h = refl
 
-pub returns-then-at-units-clause-store : goal.returns-then-at-units-clause-store
-returns-then-at-units-clause-store c =
-    sym (stays c.args.depth (drop c.args.at c.args.units.now) c.args.store.now (omega (arith, length-drop c.args.at c.args.units.now)))
+pub returns-then-at-count-clause-store : goal.returns-then-at-count-clause-store
+returns-then-at-count-clause-store c =
+    sym (stays c.args.depth (drop c.args.at c.args.units.now.body) c.args.store.now (omega (arith, length-drop c.args.at c.args.units.now.body)))

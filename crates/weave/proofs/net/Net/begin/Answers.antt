@@ -18,7 +18,8 @@ returns-clause-sound c =
     rw (to_z-of_z w64 h.next fits_next) (record {
       set = record {
         entered = c.requires.entered;
-        units = c.as_slice.ensures ∙ ap (λ (l : Loop). l.body) c.requires.looped;
+        units = c.requires.units;
+        room = omega (arith, c.in_ok-frame.ensures);
         depth = c.depth.ensures ∙ depth_after_some e (before e h.next) h.store state.state;
         from = state.within.0;
         fits = λ k within. indices_fit e h.next c.args.limit k state.within c.requires.room fits_next (subst (λ z. FitsSigned w64 z) c.last-last.ensures fits_result) within;

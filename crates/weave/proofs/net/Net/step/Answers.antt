@@ -33,6 +33,6 @@ returns-clause-sound c =
     let same : c.act.new.self.moves ≡ net.moves = ap (λ (x : SeqNet). x.moves) c.in_ok-act.ensures.net ∙ moves_stay net c.requires.goes_on s.sound in
     let is = one_move (net_of c.act.new.self) net c.in_ok-act.ensures.net same in
     record {
-      set = record { entered = set.entered; units = set.units; depth = set.depth; from = set.from; fits = set.fits; few = set.few; place = set.place };
+      set = record { entered = set.entered; units = set.units; room = set.room; depth = set.depth; from = set.from; fits = set.fits; few = set.few; place = set.place };
       sound = subst IsSound (sym is) (sound_moved net s.set.entered c.requires.goes_on s.sound);
     }

@@ -12,11 +12,11 @@ run_out c =
     let left : c.args.self.now.left ≡ drop c.self.inside.at c.deref.result.now =
     ap (λ (w : WeaveView). w.left) (sym c.self.view_is) ∙ ap (drop c.self.inside.at) (sym c.deref.ensures.value) in
     record {
-      first = net_of c.begin-net.result;
-      begun = c.begin-net.ensures.net;
+      first = net_of c.in_ok-net.net;
+      begun = c.in_ok-net.ensures.net;
       net = net_of c.follow.new.net;
       left = drop c.in_ok-self-inside.field-0 c.deref.result.now;
-      follows = ap (λ (cs : List Command). follow seq_machine cs (net_of c.begin-net.result)) left ∙ c.in_ok-self-inside.ensures.follows;
+      follows = ap (λ (cs : List Command). follow seq_machine cs (net_of c.in_ok-net.net)) left ∙ c.in_ok-self-inside.ensures.follows;
       out = c.in_ok-run_out.ensures.net;
     }
 

@@ -1,0 +1,43 @@
+use Rattle.std.proofs.Common.{subst, refl, arith, rules, FitsSigned, w64}
+use Rattle.std.proofs.lemmas.Int.{to_z-of_z}
+use Rattle.nona_main.specs.Frame.{Stops}
+use Rattle.morta_exec.specs.Began.{began}
+use Rattle.morta_exec.proofs.Passing.{shown_front}
+use Rattle.morta_exec.proofs.Coming.{front_put}
+use Rattle.morta_exec.proofs.Onward.{region_there}
+use Rattle.morta_exec.proofs.Through.{broken_more, through_prints, stop_prints, through_ended, through_region}
+use Rattle.morta_exec.proofs.one_thread.pass.Goals as goal
+
+pub show-requires : goal.show-requires
+show-requires g c =
+    let front = shown_front _ _ _ c.printed-shown.result.now c.printed-shown.ensures c.in-Ok.ensures.prints c.requires.put in
+    record { shown = front.0; put = front.1 }
+
+pub returns-in-Ended-clause-goes_on : goal.returns-in-Ended-clause-goes_on
+returns-in-Ended-clause-goes_on g c =
+    let n = c.args.start.now.turns in
+    let w = c.requires.through in
+    let later = g.F.MainFrame.left c.next.new.self n in
+    through_ended (g.F.MainFrame.left c.args.frame.now n) later (began c.args.start.now) c.args.store c.next.new.store c.args.count.now.value c.in-Ended.end
+    w (subst (λ s. Stops later w.rest n s c.next.new.store) c.in-Ended.is (c.in-Ok.ensures.stops w.rest w.left_is))
+
+pub arrive-arrival-requires : goal.arrive-arrival-requires
+arrive-arrival-requires g c =
+    let n = c.args.start.now.turns in
+    let w = c.requires.through in
+    let later = g.F.MainFrame.left c.next.new.self n in
+    let there = region_there later (began c.args.start.now) w.rest c.next.new.store c.in-Region.number c.in-Region.low c.in-Region.high w.are_regions
+    (subst (λ s. Stops later w.rest n s c.next.new.store) c.in-Region.is (c.in-Ok.ensures.stops w.rest w.left_is)) in
+    record { some_turns = c.requires.some_turns; few_turns = c.requires.few_turns; first = there.0; there = there.1 }
+
+pub pass_region-requires-clause-at : goal.pass_region-requires-clause-at
+pass_region-requires-clause-at g c =
+    let n = c.args.start.now.turns in
+    let w = c.requires.through in
+    let later = g.F.MainFrame.left c.next.new.self n in
+    let low : FitsSigned w64 c.in-Region.low = search rules in
+    let high : FitsSigned w64 c.in-Region.high = search rules in
+    through_region (g.F.MainFrame.left c.args.frame.now n) later (began c.args.start.now) c.args.store c.next.new.store c.args.count.now.value
+    c.in-Region.number c.in-Region.low c.in-Region.high _ _
+    w (subst (λ s. Stops later w.rest n s c.next.new.store) c.in-Region.is (c.in-Ok.ensures.stops w.rest w.left_is))
+    refl (to_z-of_z w64 c.in-Region.low low) (to_z-of_z w64 c.in-Region.high high) c.arrive-arrival.ensures.opened
