@@ -5,8 +5,6 @@
 #[cfg(test)]
 mod images;
 #[cfg(test)]
-mod logs;
-#[cfg(test)]
 mod programs;
 #[cfg(test)]
 mod runs;

@@ -19,7 +19,7 @@ use std::alloc::{AllocError, Global};
 use std::test::Fail;
 
 /// The image of a program, each loop of which that may run in other versions is a region.
-fn image_of(alloc: Global, checked: &Checked) -> Result<Image, AllocError>
+pub fn image_of(alloc: Global, checked: &Checked) -> Result<Image, AllocError>
     ensures { IfOk result (λ image. image ≡ image_of_case checked.now) }
 {
     images_keep();
