@@ -9,10 +9,10 @@ use std::test::Fail;
 
 const ROOM: usize = 4096;
 
-/// Words of a command line.
-fn words_of(alloc: Global, line: &[&str]) -> Result<Vec<String>, AllocError> {
+/// The words of a command line, between single spaces.
+fn words_of(alloc: Global, line: &str) -> Result<Vec<String>, AllocError> {
     let mut words = Vec::new(alloc);
-    for word in line {
+    for word in line.split(' ') {
         words.push(String::from_str(alloc, word)?)?;
     }
     Ok(words)
@@ -32,7 +32,7 @@ const HELD: [(&str, &str); 3] = [
 /// and fails at the put of this number, each from 1 and at 0 none; and what it wrote.
 fn call(
     alloc: Global,
-    line: &[&str],
+    line: &str,
     read: u64,
     put: u64,
     room: usize,
@@ -49,9 +49,7 @@ fn call(
 }
 
 /// Words of a replay that asks for all there is.
-const LINE: [&str; 7] = [
-    "replay", "mixed", "input", "--script", "script", "--memory", "--log",
-];
+const LINE: &str = "replay mixed input --script script --memory --log";
 
 /// What they write.
 const WHOLE: &str =
@@ -60,26 +58,37 @@ const WHOLE: &str =
 #[test]
 fn what_is_written_and_the_status(rt: HostRuntime) -> Result<(), Fail> {
     use Status::{Done, ReadFailed, WriteFailed};
-    let whole = LINE.as_slice();
-    let seq = ["seq", "mixed", "input"];
-    let short = ["seq", "mixed"];
     let cases = [
-        (whole, 0, 0, ROOM, Done, WHOLE),
-        (&short, 0, 0, ROOM, Done, "12\n345\n345\n"),
-        (whole, 1, 0, ROOM, ReadFailed, "read failed program\n"),
-        (whole, 2, 0, ROOM, ReadFailed, "read failed input\n"),
-        (whole, 3, 0, ROOM, ReadFailed, "read failed script\n"),
-        (&seq, 2, 0, ROOM, ReadFailed, "read failed input\n"),
-        (&short, 0, 2, ROOM, WriteFailed, "12\n34"),
-        (&["seq", "absent"], 0, 1, ROOM, WriteFailed, "read faile"),
-        (&["seq"], 0, 1, ROOM, WriteFailed, "usa"),
-        (&short, 0, 9, 5, WriteFailed, "12\n34"),
-        (whole, 0, 9, 4, WriteFailed, "12\n3"),
+        (LINE, 0, 0, ROOM, Done, WHOLE),
+        ("seq mixed", 0, 0, ROOM, Done, "12\n345\n345\n"),
+        (LINE, 1, 0, ROOM, ReadFailed, "read failed program\n"),
+        (LINE, 2, 0, ROOM, ReadFailed, "read failed input\n"),
+        (LINE, 3, 0, ROOM, ReadFailed, "read failed script\n"),
+        (
+            "seq mixed input",
+            2,
+            0,
+            ROOM,
+            ReadFailed,
+            "read failed input\n",
+        ),
+        ("seq mixed", 0, 2, ROOM, WriteFailed, "12\n34"),
+        ("seq absent", 0, 1, ROOM, WriteFailed, "read faile"),
+        ("seq", 0, 1, ROOM, WriteFailed, "usa"),
+        ("seq mixed", 0, 9, 5, WriteFailed, "12\n34"),
+        (
+            "replay mixed --script script",
+            0,
+            9,
+            4,
+            WriteFailed,
+            "12\n3",
+        ),
     ];
     for (line, read, put, room, status, written) in cases {
         let (report, sink) = call(rt.alloc(), line, read, put, room)?;
-        assert_eq!(rt; report.status, status, "{written}");
-        assert_eq!(rt; sink.text(), written.as_bytes(), "{written}");
+        assert_eq!(rt; report.status, status, "{line}");
+        assert_eq!(rt; sink.text(), written.as_bytes(), "{line}");
     }
     Ok(())
 }
@@ -105,7 +114,7 @@ fn what_is_told_beside_a_front(rt: HostRuntime) -> Result<(), Fail> {
         (10, 2, true),
     ];
     for (put, intervals, ended) in cases {
-        let (report, sink) = call(rt.alloc(), &LINE, 0, put, ROOM)?;
+        let (report, sink) = call(rt.alloc(), LINE, 0, put, ROOM)?;
         assert_eq!(rt; parts(&report), (intervals, ended, ended), "put {put}");
         assert!(rt; WHOLE.as_bytes().starts_with(sink.text()), "put {put}");
     }
