@@ -2,7 +2,7 @@
 use Rattle.std.proofs.Common.{◌≡◌, ℕ, ℤ, List, [], ◌∷◌, ◌++◌, refl, sym, ap, subst, arith, zero-add, None, Some}
 use Rattle.std.specs.declared.option.Option.{Option}
 use Rattle.std.specs.Io.KnownBytes.{Appends}
-use Rattle.std.specs.Prelude.{All}
+use Rattle.std.specs.Prelude.{All, Result, Ok, Err, IfOk}
 use Rattle.std.specs.List.{AllByRecursion}
 use Rattle.std.proofs.KnownBytes.{Appends-nil}
 use mathlib.Core.Path.{fun_ext}
@@ -119,3 +119,8 @@ put_first m w f printed = record {
   put = subst (λ numbers. Appends w w (number_lines numbers)) (sym printed) (Appends-nil w);
   kept = refl;
 }
+
+-- what is so of each frame that begins so
+pub begun_as : {A E : Type 0} (r : Result A E) (P Q : A → Type 0) → ((x : A) → P x → Q x) → IfOk r P → IfOk r Q
+begun_as (Ok x) P Q f h = f x h
+begun_as (Err e) P Q f h = h

@@ -33,7 +33,7 @@ use Rattle.morta_exec.proofs.Growing.{extends_chain}
 use Rattle.morta_exec.proofs.Loops.{before_low}
 
 -- what a fault that is handed on has
-pub handed_on : {T : Type 0} (P : DriveFault → Type 0) (r : Result T DriveFault) (fault : DriveFault) → IsErrAnd r (λ e. e ≡ fault) → P fault → IfErr r P
+pub handed_on : {T E : Type 0} (P : E → Type 0) (r : Result T E) (fault : E) → IsErrAnd r (λ e. e ≡ fault) → P fault → IfErr r P
 handed_on P (Ok x) fault told h = tt
 handed_on P (Err e) fault told h = subst P (sym told) h
 

@@ -1,12 +1,14 @@
 -- A run in one thread, from one region to the next.
-use Rattle.std.proofs.Common.{◌≡◌, ◌≢◌, ℕ, ◌+◌, ◌-◌, ◌<◌, ◌≤◌, ℤ, pos, ◌+ℤ◌, List, [], ◌∷◌, ◌++◌, length, refl, sym, ◌∙◌, ap, subst, subst₂, append_assoc, arith, Some, slice_get}
-use Rattle.std.specs.Prelude.{All, Ok, map}
+use Rattle.std.proofs.Common.{◌≡◌, ◌≢◌, ℕ, suc, ◌+◌, ◌-◌, ◌<◌, ◌≤◌, ℤ, pos, ◌+ℤ◌, List, [], ◌∷◌, ◌++◌, length, refl, sym, ◌∙◌, ap, subst, subst₂, append_assoc, arith, Some, slice_get}
+use Rattle.std.specs.Prelude.{All, Ok, Err, IfOk, IfErr, map}
+use Rattle.std.specs.declared.result.Result.{Result}
+use Rattle.std.specs.Io.KnownBytes.{Appends}
 use Rattle.std.proofs.lemmas.List.{length-map}
 use Rattle.std.proofs.lemmas.List.Elements.{All-tail}
 use Rattle.std.proofs.lemmas.List.Concat.{flat_map-append}
 use Rattle.std.specs.declared.option.Option.{Option}
 use Rattle.fate_io.specs.Putting.{AppendsFront}
-use Rattle.fate_io.specs.Sending.{Sent, BreaksOff}
+use Rattle.fate_io.specs.Sending.{Sent, Sends, BreaksOff, sent_since}
 use Rattle.fate_io.specs.declared.sending.SendFault.{SendFault}
 use Rattle.fate_io.specs.declared.sending.SendFault.TheVariants as sending
 use Rattle.nona_tree.specs.declared.outcomes.Outcome.{Outcome}
@@ -19,18 +21,20 @@ use Rattle.nona_tree.specs.Run.{Ran, run, run_all, turn, first_turns, done, Reac
 use Rattle.nona_tree.specs.Numbers.{IsI64}
 use Rattle.nona_tree.specs.Scope.{IsScoped, AreScoped}
 use Rattle.nona_tree.proofs.Equations.{scoped-For}
-use Rattle.nona_tree.specs.Entries.{Opened, regions_all, count_all, IsEntryOf}
-use Rattle.nona_main.specs.Course.{Course, ended}
+use Rattle.nona_tree.specs.Entries.{Opened, Entry, after, entries_all, regions_all, count_all, IsEntryOf}
+use Rattle.nona_main.specs.Course.{Course, ended, course_of}
 use Rattle.nona_main.specs.declared.frame.Stop.{Stop}
 use Rattle.nona_main.specs.declared.frame.Stop.TheVariants as stops
 use Rattle.nona_main.specs.Frame.{IsAtRegion, Stops, CanGoOn, CanLeave}
 use Rattle.morta_task.specs.declared.opening.Opening.{Opening}
 use Rattle.morta_task.specs.RegionView.{RegionView}
-use Rattle.morta_task.specs.ImageView.{is_region_of}
-use Rattle.morta_task.specs.Entries.{EntryView, entered, IsEntered, last, before, state_after, numbered_from}
+use Rattle.morta_task.specs.ImageView.{ImageView, is_region_of}
+use Rattle.morta_task.specs.Entries.{EntryView, entered, IsEntered, last, before, loop_of, state_after, numbered_from}
 use Rattle.morta_task.specs.Running.{IsIn}
 use Rattle.morta_text.specs.Texts.{number_line, number_lines}
-use Rattle.morta_exec.specs.Began.{Began, whole_run}
+use Rattle.nona_store.specs.declared.ended.Ended.{Ended}
+use Rattle.morta_exec.specs.declared.start.Beginning.{Beginning}
+use Rattle.morta_exec.specs.Began.{Began, all_entries, whole_run, run_from}
 use Rattle.morta_exec.specs.EntryRun.{whole_loop, LoopsOfEntries}
 use Rattle.morta_exec.specs.MainRun.{IsOpened}
 use Rattle.morta_exec.specs.Puts.{HasPut}
@@ -54,6 +58,17 @@ scoped_at scalars_law lengths_law e k m entered reached =
     let arrays : length m.arrays ≡ length e.store.arrays =
     sym (length-map m.arrays length) ∙ sym (ap (λ (r : Ran). length (map length r.store.arrays)) reached) ∙ ap length (lengths_law e.looped.body e.turns e.low k e.store) ∙ length-map e.store.arrays length in
     subst₂ (λ d a. AreScoped e.looped.body (d + 1) a) (sym scalars) (sym arrays) parts.3
+
+-- one iteration more, of this body with these turns
+pub next_state : ((l : Entry) (k : ℕ) (m : Memory) → after l k ≡ done m → after l (k + 1) ≡ turn (run_all l.looped.body l.turns) (l.low +ℤ pos k) m)
+    → (e : EntryView) (k n : ℕ) (index : ℤ) (body : List Stmt) (m : Memory) (r : Ran) → body ≡ e.looped.body → n ≡ e.turns → index ≡ e.low +ℤ pos k
+    → state_after e k ≡ done m → turn (run_all body n) index m ≡ r → state_after e (k + 1) ≡ r
+next_state law e k n index body m r same turns is reached ran =
+    law (loop_of e) k m reached ∙ (λ i. turn (run_all (sym same i) (sym turns i)) (sym is i) m) ∙ ran
+
+-- all iterations up to the last
+pub last_state : (e : EntryView) (k last : ℕ) (m : Memory) → k ≡ last → state_after e k ≡ done m → state_after e last ≡ done m
+last_state e k last m same reached = ap (state_after e) (sym same) ∙ reached
 
 -- an iteration that ended otherwise than done ends the loop
 pub ends_at : LoopsOfEntries → (e : EntryView) (k : ℕ) (m : Memory) (end : Outcome) → IsEntered e → k < before e (last e) → state_after e (k + 1) ≡ record { store = m; end = end }
@@ -183,4 +198,47 @@ region_ended left b e count store final end w h leaves =
 -- as many entries as regions that a run comes to
 pub numbered_length : (regions : List RegionView) (n number : ℕ) (os : List Opened) → length (numbered_from regions n number os) ≡ length os
 numbered_length regions n number [] = refl
-numbered_length regions n number (o ∷ rest) = ap (λ k. k + 1) (numbered_length regions n (number + 1) rest)
+numbered_length regions n number (o ∷ rest) = ap suc (numbered_length regions n (number + 1) rest)
+
+-- before the first region
+pub first_through : {M : Type 0} (left : Ran → Course → Type 0) (b : Began M) (count : ℕ)
+    → left (done b.from.store) (course_of (is_region_of b.image) 1 b.image.main b.from.turns b.from.store)
+    → All (IsEntryOf (regions_all (is_region_of b.image) b.image.main)) (entries_all (is_region_of b.image) 1 b.image.main b.from.turns b.from.store)
+    → count ≡ length (all_entries b) → IsThrough left b b.from.store count
+first_through left b count is_left regions many = record {
+  rest = course_of (is_region_of b.image) 1 b.image.main b.from.turns b.from.store;
+  left_is = is_left;
+  ran = refl;
+  are_regions = regions;
+  many = sym (many ∙ numbered_length b.image.regions b.from.turns 1 (entries_all (is_region_of b.image) 1 b.image.main b.from.turns b.from.store));
+}
+
+-- all that is said of a run without a log
+pub record SaysThrough (ran : Ran) (shown : Sent) (r : Result Ended SendFault) : Type 0 where
+  pub ended : IfOk r (λ (ended : Ended). Reaches ran ended.store ended.outcome)
+  pub sent : Sends shown (number_lines ran.store.printed) r
+  pub later : shown.faults_before ≤ shown.faults
+
+-- by how it ended
+says_through : (ran : Ran) (sent : Sent) (r : Result Ended SendFault) → IfOk r (λ (ended : Ended). Reaches ran ended.store ended.outcome)
+    → IfOk r (λ (ended : Ended). HasPut sent ended.store.printed) → sent.faults_before ≤ sent.faults
+    → IfErr r (λ (fault : SendFault). BreaksOff sent (number_lines ran.store.printed) fault) → SaysThrough ran sent r
+says_through ran sent (Ok e) run put later stopped = record {
+  ended = run;
+  sent = subst (λ (m : Memory). Appends sent.before sent.after (number_lines m.printed)) (sym (ap (λ (x : Ran). x.store) run)) put.put;
+  later = later;
+}
+says_through ran sent (Err fault) run put later stopped = record { ended = tt; sent = stopped; later = later }
+
+-- a run that began with copies of the store and of the sink
+pub went_through : {K : Type 0} (written : K → Option (List ℕ)) (faults : K → ℕ) (image : ImageView) (from : Beginning) (out out' new : K) (store' : Memory) (r : Result Ended SendFault)
+    → store' ≡ from.store → out' ≡ out
+    → IfOk r (λ (ended : Ended). Reaches (run_from image (record { store = store'; turns = from.turns })) ended.store ended.outcome)
+    → IfOk r (λ (ended : Ended). HasPut (sent_since written faults out' new) ended.store.printed)
+    → faults out' ≤ faults new
+    → IfErr r (λ (fault : SendFault). BreaksOff (sent_since written faults out' new) (number_lines (run_from image (record { store = store'; turns = from.turns })).store.printed) fault)
+    → SaysThrough (run_from image from) (sent_since written faults out new) r
+went_through written faults image from out out' new store' r same_store same_out run put later stopped =
+    subst (λ z. SaysThrough (run_from image from) (sent_since written faults z new) r) same_out
+    (subst (λ (m : Memory). SaysThrough (run_from image (record { store = m; turns = from.turns })) (sent_since written faults out' new) r) same_store
+    (says_through (run_from image (record { store = store'; turns = from.turns })) (sent_since written faults out' new) r run put later stopped))

@@ -15,7 +15,7 @@ ghost use Rattle.morta_exec.specs.Starts.{BeginsImage};
 
 use crate::fault::DriveFault;
 use crate::main_run::drive_frame;
-use crate::one_thread::pass_all;
+use crate::one_thread::{count_all, pass_all};
 use crate::start::{Beginning, Start};
 use fate_io::{SendFault, Sink};
 use morta_task::{Asker, Image, Log, Runner};
@@ -106,6 +106,7 @@ pub fn run_through<K: Sink>(
     let Beginning { store, turns } = from;
     // The store's numbers are of 64 bits.
     store.is_kept();
+    let count = count_all(image, &store, turns);
     let start = Start {
         alloc,
         image,
@@ -117,5 +118,5 @@ pub fn run_through<K: Sink>(
     let Ok(mut frame) = frame_of(alloc, image) else {
         return Err(SendFault::NoMemory);
     };
-    pass_all(&start, &mut frame, store, out)
+    pass_all(&start, &mut frame, store, count, out)
 }

@@ -62,7 +62,8 @@ pub fn whole_end(image: &Image, entry: &Entry) -> Outcome
 fn loop_end(image: &Image, entry: &Entry, interval: &Interval) -> Option<Outcome>
     requires entered { IsEntered entry.now }
     requires region { IsIn entry.now image.now }
-    requires done { IsDone entry.now interval.now.ran interval.now.from (limit_of entry.now interval.now.from interval.now.asked.until) interval.now.done }
+    requires done { IsDone entry.now interval.now.ran interval.now.from
+        (limit_of entry.now interval.now.from interval.now.asked.until) interval.now.done }
     ensures { EndsWith entry.now interval.now result }
 {
     loops_of_entries();
@@ -97,7 +98,8 @@ fn run_and_show<M: Runner + Asker, K: Sink>(
     ensures goes_on { IfOk result (λ r. GoesOnAt M.promise (began start.now) morta.new entry.now log.new r.0 r.1) }
     ensures put { IfOk result (λ r. HasPut (sent_since K.written K.faults start.now.out.value out.new) r.0.store.printed) }
     ensures added { OnOk result (length log.new.intervals ≡ length log.old.intervals + 1) }
-    ensures stopped { IfErr result (λ fault. HasStopped M.promise (began start.now) log.new (sent_since K.written K.faults start.now.out.value out.new) fault) }
+    ensures stopped { IfErr result (λ fault.
+        HasStopped M.promise (began start.now) log.new (sent_since K.written K.faults start.now.out.value out.new) fault) }
 {
     loops_of_entries();
     let shown = pending.handoff.store.printed().len();
@@ -125,7 +127,8 @@ pub fn run_entry<M: Runner + Asker, K: Sink>(
     ensures put { IfOk result (λ r. HasPut (sent_since K.written K.faults start.now.out.value out.new) r.0.printed) }
     ensures few { OnOk result (length log.new.intervals ≤ most) }
     ensures added { OnOk result (length log.old.intervals < length log.new.intervals) }
-    ensures stopped { IfErr result (λ fault. HasStopped M.promise (began start.now) log.new (sent_since K.written K.faults start.now.out.value out.new) fault) }
+    ensures stopped { IfErr result (λ fault.
+        HasStopped M.promise (began start.now) log.new (sent_since K.written K.faults start.now.out.value out.new) fault) }
 {
     loops_of_entries();
     let mut pending = pending;

@@ -88,7 +88,8 @@ fn run_region<F: MainFrame, M: Runner + Asker, K: Sink>(
     ensures goes_on { IfOk result (λ r. GoesOnTo M.promise (F.left frame.new start.now.turns) (began start.now) morta.new log.new r.0 r.1) }
     ensures put { IfOk result (λ r. HasPut (sent_since K.written K.faults start.now.out.value out.new) r.0.printed) }
     ensures added { OnOk result (length log.old.intervals < length log.new.intervals) }
-    ensures stopped { IfErr result (λ fault. HasStopped M.promise (began start.now) log.new (sent_since K.written K.faults start.now.out.value out.new) fault) }
+    ensures stopped { IfErr result (λ fault.
+        HasStopped M.promise (began start.now) log.new (sent_since K.written K.faults start.now.out.value out.new) fault) }
 {
     loops_of_entries();
     let Arrival { entry, pending } = arrival;
@@ -120,7 +121,8 @@ fn step<F: MainFrame, M: Runner + Asker, K: Sink>(
     ensures goes_on { IfOk result (λ r. GoesOnTo M.promise (F.left frame.new start.now.turns) (began start.now) morta.new log.new r.0 r.1) }
     ensures put { IfOk result (λ r. HasPut (sent_since K.written K.faults start.now.out.value out.new) r.0.printed) }
     ensures added { IfOk result (λ r. r.1 ≡ None → length log.old.intervals < length log.new.intervals) }
-    ensures stopped { IfErr result (λ fault. HasStopped M.promise (began start.now) log.new (sent_since K.written K.faults start.now.out.value out.new) fault) }
+    ensures stopped { IfErr result (λ fault.
+        HasStopped M.promise (began start.now) log.new (sent_since K.written K.faults start.now.out.value out.new) fault) }
 {
     printed_grows();
     let mut store = store;
@@ -158,7 +160,8 @@ pub fn drive_frame<F: MainFrame, M: Runner + Asker, K: Sink>(
     requires put { HasPut (sent_since K.written K.faults start.now.out.value out.old) store.printed }
     ensures run { IfOk result (λ ended. IsOver M.promise (began start.now) log.new ended.store ended.outcome) }
     ensures put { IfOk result (λ ended. HasPut (sent_since K.written K.faults start.now.out.value out.new) ended.store.printed) }
-    ensures stopped { IfErr result (λ fault. HasStopped M.promise (began start.now) log.new (sent_since K.written K.faults start.now.out.value out.new) fault) }
+    ensures stopped { IfErr result (λ fault.
+        HasStopped M.promise (began start.now) log.new (sent_since K.written K.faults start.now.out.value out.new) fault) }
 {
     let mut store = store;
     loop {

@@ -2,10 +2,10 @@
 ghost use Rattle.std.specs.Prelude.{◌≡◌, ◌-◌, ◌≤◌, ◌^◌, pos, ◌+ℤ◌, length, IfOk, IfErr};
 ghost use Rattle.fate_io.specs.Sending.{sent_since, BreaksOff};
 ghost use Rattle.nona_tree.specs.Run.{Reaches};
-ghost use Rattle.morta_task.specs.Entries.{IsEntered, before, last};
+ghost use Rattle.morta_task.specs.Entries.{IsEntered, before, last, entries_of};
 ghost use Rattle.morta_task.specs.Running.{IsIn};
 ghost use Rattle.morta_text.specs.Texts.{number_lines};
-ghost use Rattle.morta_exec.specs.Began.{began, all_entries, whole_run};
+ghost use Rattle.morta_exec.specs.Began.{began, whole_run};
 ghost use Rattle.morta_exec.specs.EntryRun.{whole_loop};
 ghost use Rattle.morta_exec.specs.MainRun.{BeginsEntry};
 ghost use Rattle.morta_exec.specs.Puts.{HasPut};
@@ -22,8 +22,17 @@ use nona_main::{MainFrame, Stop};
 use nona_num::{gap, offset};
 use nona_store::{Ended, Store};
 use nona_tree::{Outcome, after_next, lengths_stay, printed_grows, scalars_stay};
-use nona_units::turn_units;
-use std::alloc::{AllocError, Global};
+use nona_units::{Units, turn_units};
+use std::alloc::AllocError;
+use std::snapshot::Snapshot;
+
+/// The code of the statements of the loop that an entry names.
+fn units_of<'a>(image: &'a Image, entry: &Entry) -> &'a Units
+    requires { IsIn entry.now image.now }
+    ensures { result.now.body ≡ entry.now.looped.body }
+{
+    image.region(entry.region()).units()
+}
 
 /// The index of the iteration with this number, from 0.
 fn index_of(entry: &Entry, k: u64) -> i64
@@ -34,13 +43,15 @@ fn index_of(entry: &Entry, k: u64) -> i64
     offset(entry.low(), k)
 }
 
+/// How many iterations an entry has.
+fn count_of(entry: &Entry) -> u64
+    ensures { result ≡ before entry.now (last entry.now) }
+{
+    gap(entry.low(), entry.last())
+}
+
 /// Runs the whole loop of an entry, one iteration after another.
-fn run_loop(
-    alloc: Global,
-    image: &Image,
-    entry: &Entry,
-    store: Store,
-) -> Result<(Store, Outcome), AllocError>
+fn run_loop(image: &Image, entry: &Entry, store: Store) -> Result<(Store, Outcome), AllocError>
     requires entered { IsEntered entry.now }
     requires region { IsIn entry.now image.now }
     requires store { store ≡ entry.now.store }
@@ -50,12 +61,14 @@ fn run_loop(
     scalars_stay();
     lengths_stay();
     loops_of_entries();
-    let units = image.region(entry.region()).units();
+    let units = units_of(image, entry);
     let turns = entry.turns();
-    let mut frame = units.frame(alloc)?;
+    let mut frame = units.frame()?;
     let mut store = store;
-    'iterations: for k in 0..gap(entry.low(), entry.last()) {
-        match turn_units(units, index_of(entry, k), &mut frame, turns, &mut store)? {
+    let count = count_of(entry);
+    'iterations: for k in 0..count {
+        let index = index_of(entry, k);
+        match turn_units(units, index, &mut frame, turns, &mut store)? {
             Outcome::Done => {}
             end => return Ok((store, end)),
         }
@@ -63,11 +76,12 @@ fn run_loop(
     Ok((store, whole_end(image, entry)))
 }
 
-/// How many regions a run comes to, for contracts alone.
-fn count_all<M, K>(start: &Start<'_, M, K>) -> Named<u64>
-    ensures { result.value ≡ length (all_entries (began start.now)) }
+/// How many regions the run of an image from a store comes to, for contracts alone.
+pub fn count_all(image: &Image, store: &Store, turns: u64) -> Named<u64>
+    ensures { result.value ≡ length (entries_of image.now turns store.now) }
 {
-    Named::by(start)
+    let whole = (Snapshot::of(image), Snapshot::of(store), turns);
+    Named::by(&whole)
 }
 
 /// One region less.
@@ -100,7 +114,7 @@ fn pass_region<F: MainFrame, K: Sink>(
     let Arrival { entry, pending } = arrival;
     let store = pending.handoff.store;
     let shown = store.printed().len();
-    let (mut store, end) = match run_loop(start.alloc, start.image, &entry, store) {
+    let (mut store, end) = match run_loop(start.image, &entry, store) {
         Ok(ran) => ran,
         Err(_) => return Err(SendFault::NoMemory),
     };
@@ -161,11 +175,12 @@ pub fn pass_all<F: MainFrame, K: Sink>(
     start: &Start<'_, (), K>,
     frame: &mut F,
     store: Store,
+    count: Named<u64>,
     out: &mut K,
 ) -> Result<Ended, SendFault>
     requires some_turns { 1 ≤ start.now.turns }
     requires few_turns { start.now.turns ≤ 10 ^ 12 }
-    requires through { IsThrough (F.left frame.old start.now.turns) (began start.now) store (length (all_entries (began start.now))) }
+    requires through { IsThrough (F.left frame.old start.now.turns) (began start.now) store count.value }
     requires put { HasPut (sent_since K.written K.faults start.now.out.value out.old) store.printed }
     ensures ended { IfOk result (λ ended. Reaches (whole_run (began start.now)) ended.store ended.outcome) }
     ensures put { IfOk result (λ ended. HasPut (sent_since K.written K.faults start.now.out.value out.new) ended.store.printed) }
@@ -174,7 +189,7 @@ pub fn pass_all<F: MainFrame, K: Sink>(
         BreaksOff (sent_since K.written K.faults start.now.out.value out.new) (number_lines (whole_run (began start.now)).store.printed) fault) }
 {
     let mut store = store;
-    let mut count = count_all(start);
+    let mut count = count;
     loop {
         let (after, end) = pass(start, frame, store, &count, out)?;
         store = after;

@@ -1,8 +1,7 @@
 -- What may be claimed of the code of statements: that it runs as they do, with their deeds, or that it stops at their regions.
-use Rattle.std.proofs.Common.{◌≡◌, ℕ, ◌+◌, ◌≤◌, Bool, true, false, if◌then◌else◌, ℤ, List, [], ◌++◌, length, Some, refl, subst, arith, rules}
-use Rattle.std.specs.Prelude.{slice_get, Result, Ok, Err}
+use Rattle.std.proofs.Common.{◌≡◌, ℕ, ◌+◌, ◌≤◌, Bool, true, false, if◌then◌else◌, ℤ, List, [], ◌++◌, length, Some, refl, subst, arith}
+use Rattle.std.specs.Prelude.{slice_get, Ok}
 use Rattle.nona_tree.specs.declared.trees.Expr.{Expr}
-use Rattle.nona_tree.specs.declared.outcomes.Trap.{Trap}
 use Rattle.nona_tree.specs.declared.outcomes.Outcome.TheVariants as outcome
 use Rattle.nona_tree.specs.Memory.{Memory, cut_to}
 use Rattle.nona_tree.specs.Value.{value_of}
@@ -16,7 +15,7 @@ use Rattle.nona_code.proofs.Placed.{Stands}
 use Rattle.nona_code.proofs.Traces.{ComesIn, EndsIn, most, Gives}
 use Rattle.nona_gen.specs.Code.{leave_code}
 use Rattle.nona_gen.proofs.Values.{at}
-use Rattle.nona_gen.proofs.Lands.{Kept, Around, RunsIn, lands, runs_wider, runs_on, runs_value, runs_next, runs_leave, runs_jump, to_place, deeper, cut_twice}
+use Rattle.nona_gen.proofs.Lands.{nothing_more, Kept, Around, RunsIn, lands, runs_wider, runs_on, runs_value, runs_next, runs_leave, runs_jump, to_place, deeper, cut_twice}
 
 module _ (code : List Instr) (n : ℕ) where
   -- what is claimed of code that runs from a state to a place in no more than so many steps, and what a statement gives there;
@@ -59,10 +58,6 @@ module _ (code : List Instr) (n : ℕ) where
     leave = runs_leave code n;
     jump = runs_jump code n;
   }
-
-nothing_more : {A B : Type 0} (o : Result A Trap) (es : List B) → es ++ on_ok o (λ v. []) ≡ es
-nothing_more (Ok v) es = search rules
-nothing_more (Err t) es = search rules
 
 module _ (code : List Instr) (n : ℕ) {B : Type 0} (claims : Claims code n B) where
   pub claim_as : (b : ℕ) (s : State) (x : Around) (es fs : List B) (r q : Ran) → es ≡ fs → r ≡ q → claims.claim b s x es r → claims.claim b s x fs q

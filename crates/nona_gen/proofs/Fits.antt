@@ -1,15 +1,13 @@
 -- What has code fits the numbers of scalars, hidden scalars and counters.
-use Rattle.std.proofs.Common.{◌≡◌, ℕ, zero, suc, ◌+◌, ◌<◌, ◌≤◌, Bool, true, false, if◌then◌else◌, List, [], ◌∷◌, refl, arith}
-use Rattle.std.specs.Prelude.{max, All}
+use Rattle.std.proofs.Common.{ℕ, zero, suc, ◌+◌, ◌≤◌, Bool, true, false, if◌then◌else◌, List, [], ◌∷◌, arith}
+use Rattle.std.specs.Prelude.{All}
 use Rattle.std.proofs.Math.Nat.{le-max_left, le-max_right}
-use Rattle.nona_tree.specs.declared.trees.Access.{Access}
 use Rattle.nona_tree.specs.declared.trees.Expr.{Expr, Number, Scalar, Cell', Len, Neg', Not', Binary', more_of-Expr, end_of-Expr}
 use Rattle.nona_tree.specs.declared.trees.Expr.TheBlock.{more_of-Access, end_of-Access}
 use Rattle.nona_tree.specs.declared.trees.Stmt.{Stmt, Let, Set, Fold, Put, FoldPut, If', While', For', Print, Row_of-Stmt, end_of-Stmt, more_of-Stmt}
 use Rattle.nona_tree.specs.Numbers.{AreI64Stmts}
 use Rattle.nona_tree.specs.Scope.{IsNamed, IsScoped, IsRowScoped, AreScoped, IsSteady, IsRowSteady, AreSteady, is_let, depth_after}
-use Rattle.nona_tree.specs.Smallness.{expr_size, stmt_size, row_size, all_size, stmt_nesting, row_nesting, all_nesting}
-use Rattle.nona_code.specs.Machine.{first_hidden}
+use Rattle.nona_tree.specs.Smallness.{stmt_size, row_size, all_size, stmt_nesting, row_nesting, all_nesting}
 use Rattle.nona_gen.specs.Fit.{IsFitExpr, IsFit, IsRowFit}
 use Rattle.nona_gen.specs.Units.{HasCode}
 use Rattle.nona_gen.proofs.Fewer.{body_fewer}

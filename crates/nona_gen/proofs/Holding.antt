@@ -4,14 +4,13 @@ use Rattle.std.specs.Prelude.{IfOk, min, int_lt, slice_get, slice_set, slice_ind
 use Rattle.std.proofs.lemmas.List.{length-set, get_or-set_same}
 use Rattle.std.specs.Int.{int_gap}
 use Rattle.nona_tree.specs.declared.names.Use.{Use}
-use Rattle.nona_tree.specs.declared.outcomes.Outcome.TheVariants as outcome
 use Rattle.nona_tree.specs.declared.trees.Expr.{Expr}
 use Rattle.nona_tree.specs.declared.trees.Stmt.{Stmt, If', While', For', Row_of-Stmt}
 use Rattle.nona_tree.specs.Memory.{Memory, declare}
 use Rattle.nona_tree.specs.Value.{is_zero, value_of}
 use Rattle.nona_tree.specs.Numbers.{IsI64, IsI64Stmt}
-use Rattle.nona_tree.specs.Run.{Ran, done, with_value, then_do, block, turn, while_turns, for_turns, run, run_row}
-use Rattle.nona_tree.specs.Scope.{IsScoped, is_let}
+use Rattle.nona_tree.specs.Run.{Ran, done, with_value, then_do, block, turn, for_turns, run, run_row}
+use Rattle.nona_tree.specs.Scope.{IsScoped}
 use Rattle.nona_tree.specs.Beside.{on_ok, on_done, while_gives, first_give}
 use Rattle.nona_tree.proofs.I64.{value_fits}
 use Rattle.nona_code.specs.declared.instr.Instr.{Instr}

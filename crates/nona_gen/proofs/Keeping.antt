@@ -1,5 +1,5 @@
 -- The code of statements keeps the stack rule.
-use Rattle.std.proofs.Common.{◌≡◌, ◌≢◌, All, ℕ, zero, suc, ◌+◌, ◌-◌, ◌<◌, ◌≤◌, Bool, true, false, if◌then◌else◌, List, [], ◌∷◌, ◌++◌, length, Some, refl, sym, ap, ◌∙◌, subst, arith, rules, ⊎_elim, length-append}
+use Rattle.std.proofs.Common.{◌≡◌, All, ℕ, zero, suc, ◌+◌, ◌<◌, ◌≤◌, Bool, true, false, if◌then◌else◌, List, [], ◌∷◌, ◌++◌, length, Some, refl, sym, ap, ◌∙◌, subst, arith, rules, ⊎_elim, length-append}
 use Rattle.std.specs.Prelude.{slice_get, pos}
 use Rattle.std.proofs.lemmas.Bool.{cases_lt}
 use Rattle.std.proofs.lemmas.List.Elements.{All-head, All-tail, All-nil, All-cons}
@@ -14,21 +14,19 @@ use Rattle.nona_tree.specs.declared.names.Use.{Use}
 use Rattle.nona_tree.specs.declared.trees.Loop.{Loop}
 use Rattle.nona_tree.specs.declared.trees.Stmt.{Stmt, Let, Set, Fold, Put, FoldPut, If', While', For', Print, Row_of-Stmt, end_of-Stmt, more_of-Stmt, items-the_row-Stmt}
 use Rattle.nona_tree.specs.Entries.{loop_with, count_in, count_row}
-use Rattle.nona_tree.specs.Scope.{is_let}
 use Rattle.nona_code.specs.declared.instr.Instr.{Instr}
 use Rattle.nona_code.specs.declared.instr.Instr.TheVariants as instr
 use Rattle.nona_code.specs.declared.marks.Mark.{Mark}
-use Rattle.nona_code.specs.Machine.{first_hidden}
-use Rattle.nona_code.specs.Rule.{takes, puts, leaves, declares, after, start, IsSound}
+use Rattle.nona_code.specs.Rule.{after, start, IsSound}
 use Rattle.nona_code.proofs.Placed.{Stands, front, back, stands_all}
-use Rattle.nona_gen.specs.Code.{expr_code, flip_last, flip_code, place_code, lets_row, leave_code, block_code, if_code, while_code, bounds_code, next_code, turns_code, high_of, lets_all, unit_code}
+use Rattle.nona_gen.specs.Code.{expr_code, flip_last, flip_code, place_code, lets_row, leave_code, block_code, bounds_code, next_code, turns_code, high_of, lets_all, unit_code}
 use Rattle.nona_gen.specs.MainCode.{region_code, main_code, main_row, main_all, program_code}
 use Rattle.nona_gen.specs.Fit.{IsFitExpr, IsFit, IsRowFit}
 use Rattle.nona_gen.specs.Units.{HasCode}
 use Rattle.nona_gen.proofs.MainPlain.{no_loop, main_plain, none_in}
 use Rattle.nona_gen.proofs.Fits.{code_fits}
 use Rattle.nona_gen.proofs.Opened.{lets}
-use Rattle.nona_gen.proofs.Marks.{mark, mark_is, past, past_both, past_on, mark_at, mark_past, IsAimed, IsFine, AreFine, fine, fine_on, fine_as, Followed, followed, fine_sound}
+use Rattle.nona_gen.proofs.Marks.{mark, mark_is, past, past_on, mark_at, mark_past, AreFine, fine, fine_on, fine_as, Followed, followed, fine_sound}
 
 -- the mark behind an expression: one number more
 pub expr_past : (e : Expr) (d k : ℕ) → past (mark d k) (expr_code e) ≡ mark (d + 1) k
@@ -323,6 +321,7 @@ module _ (code : List Instr) where
           ),
         ),
       )
+
   -- one of two codes
   either_fine : (c : Bool) (p k : ℕ) (xs ys : List Instr) → (Stands code p xs → p + length xs < length code → AreFine code (mark 0 k) xs) → (Stands code p ys → p + length ys < length code → AreFine code (mark 0 k) ys)
       → Stands code p (if c then xs else ys) → p + length (if c then xs else ys) < length code → AreFine code (mark 0 k) (if c then xs else ys)

@@ -9,7 +9,7 @@ use Rattle.std.specs.Int.{int_gap, w64}
 use Rattle.nona_num.specs.Folds.{join_of}
 use Rattle.nona_tree.specs.declared.trees.Op.TheVariants as op
 use Rattle.nona_tree.specs.declared.trees.Expr.{Expr}
-use Rattle.nona_tree.specs.declared.trees.Stmt.{Stmt, Row_of-Stmt}
+use Rattle.nona_tree.specs.declared.trees.Stmt.{Row_of-Stmt}
 use Rattle.nona_tree.specs.Memory.{Memory, scalar_at, declare, assign, cut_to}
 use Rattle.nona_tree.specs.Value.{apply, from_test, is_zero, value_of}
 use Rattle.nona_tree.specs.Numbers.{IsI64, IsI64Row}

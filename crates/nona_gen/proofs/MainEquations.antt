@@ -1,11 +1,11 @@
 -- The code of main statements that hold others, by the fields of these forms.
-use Rattle.std.proofs.Common.{◌≡◌, ℕ, ◌+◌, Bool, List, [], ◌∷◌, ◌++◌, length, if◌then◌else◌, refl, ap, ◌∙◌}
+use Rattle.std.proofs.Common.{◌≡◌, ℕ, ◌+◌, Bool, List, ◌++◌, length, if◌then◌else◌, refl, ap, ◌∙◌}
 use Rattle.nona_tree.specs.declared.trees.Expr.{Expr}
 use Rattle.nona_tree.specs.declared.trees.Loop.{Loop}
 use Rattle.nona_tree.specs.declared.trees.Stmt.{Stmt, If, While, For, Row_of-Stmt, end_of-Stmt, more_of-Stmt, items-the_row-Stmt, items_hidden-the_row-Stmt-0}
 use Rattle.nona_tree.specs.declared.trees.Stmt.TheBlock.{hidden-the_row-Stmt-0}
 use Rattle.nona_tree.specs.Entries.{loop_with, count_in, count_all}
-use Rattle.nona_gen.specs.Code.{expr_code, flip_code, lets_row, lets_all, block_code, if_code, while_code, bounds_code, turns_code}
+use Rattle.nona_gen.specs.Code.{expr_code, flip_code, lets_all, block_code, if_code, while_code, bounds_code, turns_code}
 use Rattle.nona_gen.specs.MainCode.{region_code, main_code, main_row, main_all}
 use Rattle.nona_gen.proofs.CodeEquations.{lets_body}
 use Rattle.nona_tree.proofs.BesideEquations.{regions_body}
@@ -38,5 +38,5 @@ pub main-For : (chosen : Loop → Bool) (first : ℕ) (l : Loop) (depth p : ℕ)
 main-For chosen first l depth p =
     let bounds = bounds_code depth (expr_code l.low) (expr_code l.high) in
     λ i. let k = loop_with l.index l.low l.high (items_hidden-the_row-Stmt-0 l.body i) l.seq l.at in
-        if chosen k then region_code first (expr_code l.low) (expr_code l.high)
-        else bounds ++ turns_code (p + length bounds) l.index.id depth l.at (main_body chosen first l.body (depth + 1) i) (lets_body l.body i)
+    if chosen k then region_code first (expr_code l.low) (expr_code l.high)
+    else bounds ++ turns_code (p + length bounds) l.index.id depth l.at (main_body chosen first l.body (depth + 1) i) (lets_body l.body i)

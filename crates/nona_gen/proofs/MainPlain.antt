@@ -1,11 +1,11 @@
 -- Main statements in which no region stands have the code of statements.
-use Rattle.std.proofs.Common.{◌≡◌, ℕ, ◌+◌, Bool, true, false, if◌then◌else◌, List, [], ◌∷◌, ◌++◌, length, refl, ap, ◌∙◌, arith, length-append}
+use Rattle.std.proofs.Common.{◌≡◌, ℕ, ◌+◌, Bool, true, false, if◌then◌else◌, List, [], ◌∷◌, ◌++◌, length, refl, arith, length-append}
 use Rattle.nona_tree.specs.declared.trees.Loop.{Loop}
 use Rattle.nona_tree.specs.declared.trees.Stmt.{Stmt, Let, Set, Fold, Put, FoldPut, If', While', For', Print, Row_of-Stmt, end_of-Stmt, more_of-Stmt, items-the_row-Stmt}
-use Rattle.nona_tree.specs.Entries.{loop_with, regions_in, regions_row, regions_all, count_in, count_row, count_all}
+use Rattle.nona_tree.specs.Entries.{loop_with, regions_in, regions_row, count_in, count_row}
 use Rattle.nona_code.specs.declared.instr.Instr.{Instr}
-use Rattle.nona_gen.specs.Code.{expr_code, flip_code, lets_row, block_code, if_code, while_code, bounds_code, turns_code, stmt_code, row_code, all_code}
-use Rattle.nona_gen.specs.MainCode.{region_code, main_code, main_row, main_all}
+use Rattle.nona_gen.specs.Code.{expr_code, flip_code, lets_row, block_code, if_code, while_code, bounds_code, turns_code, stmt_code, row_code}
+use Rattle.nona_gen.specs.MainCode.{main_code, main_row}
 
 none_before : (xs ys : List Loop) → length (xs ++ ys) ≡ 0 → length xs ≡ 0
 none_before xs ys none = omega (arith, length-append xs ys, none)
@@ -77,11 +77,3 @@ code_plain s depth p = main_plain no_loop 0 s depth p (none_in s)
 
 pub codes_plain : {k : _} (row : Row_of-Stmt k) (depth p : ℕ) → main_row no_loop 0 row depth p ≡ row_code row depth p
 codes_plain row depth p = row_plain no_loop 0 row depth p (none_row row)
-
-pub all_plain : (chosen : Loop → Bool) (first : ℕ) (ss : List Stmt) (depth p : ℕ) → count_all chosen ss ≡ 0 → main_all chosen first ss depth p ≡ all_code ss depth p
-all_plain chosen first [] depth p none = refl
-all_plain chosen first (s ∷ rest) depth p none =
-    let a : count_in chosen s ≡ 0 = omega (arith, none, length-append (regions_in chosen s) (regions_all chosen rest)) in
-    let b : count_all chosen rest ≡ 0 = omega (arith, none, length-append (regions_in chosen s) (regions_all chosen rest)) in
-    let c = main_plain chosen first s depth p a in
-    λ i. c i ++ all_plain chosen (first + count_in chosen s) rest depth (p + length (c i)) b i

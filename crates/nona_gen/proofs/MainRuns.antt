@@ -1,6 +1,6 @@
 -- The code of main statements stops at their regions, and goes on behind them as their course says.
-use Rattle.std.proofs.Common.{◌≡◌, ℕ, ◌+◌, ◌-◌, ◌≤◌, Bool, true, false, if◌then◌else◌, ℤ, List, [], ◌∷◌, ◌++◌, length, Some, refl, sym, ap, ◌∙◌, subst, arith, length-append}
-use Rattle.std.specs.Prelude.{min, slice_get, Ok}
+use Rattle.std.proofs.Common.{◌≡◌, ℕ, ◌+◌, ◌≤◌, Bool, true, false, if◌then◌else◌, ℤ, List, [], ◌∷◌, ◌++◌, length, refl, sym, ap, ◌∙◌, subst, arith, length-append}
+use Rattle.std.specs.Prelude.{min}
 use Rattle.std.specs.Int.{int_gap}
 use Rattle.nona_tree.specs.declared.names.Use.{Use}
 use Rattle.nona_tree.specs.declared.trees.Expr.{Expr}
@@ -9,20 +9,20 @@ use Rattle.nona_tree.specs.declared.trees.Stmt.{Stmt, Let, Set, Fold, Put, FoldP
 use Rattle.nona_tree.specs.Memory.{Memory, declare}
 use Rattle.nona_tree.specs.Value.{value_of}
 use Rattle.nona_tree.specs.Numbers.{IsI64Stmt, IsI64Row}
-use Rattle.nona_tree.specs.Run.{Ran, with_value, then_do, turn, for_turns, run, run_row, run_all}
+use Rattle.nona_tree.specs.Run.{with_value, then_do, turn, for_turns, run, run_row, run_all}
 use Rattle.nona_tree.specs.Scope.{IsScoped, IsRowScoped, AreScoped, is_let, depth_after}
 use Rattle.nona_tree.specs.Beside.{on_ok, first_give}
 use Rattle.nona_tree.specs.Deeds.{deeds, value_deeds}
-use Rattle.nona_tree.specs.Entries.{Opened, loop_with, count_in, count_row, entries, entries_row}
+use Rattle.nona_tree.specs.Entries.{loop_with, count_in, count_row, entries, entries_row}
 use Rattle.nona_tree.proofs.Depth.{same_if_no_let}
 use Rattle.nona_tree.proofs.Equations.{run-For, scoped-For}
 use Rattle.nona_main.specs.Frame.{opened}
 use Rattle.nona_code.specs.declared.instr.Instr.{Instr}
 use Rattle.nona_code.specs.declared.instr.Instr.TheVariants as instr
-use Rattle.nona_code.specs.Machine.{opens, open_at}
-use Rattle.nona_code.proofs.Placed.{Stands, front, back, open_before}
+use Rattle.nona_code.specs.Machine.{open_at}
+use Rattle.nona_code.proofs.Placed.{Stands, front, back}
 use Rattle.nona_code.proofs.Traces.{most, most_more}
-use Rattle.nona_gen.specs.Code.{expr_code, lets_row, bounds_code, turns_code, stmt_code}
+use Rattle.nona_gen.specs.Code.{expr_code, lets_row, bounds_code, turns_code}
 use Rattle.nona_gen.specs.MainCode.{region_code, main_code, main_row}
 use Rattle.nona_gen.specs.Fit.{IsFit, IsRowFit}
 use Rattle.nona_gen.proofs.Values.{at, level}

@@ -1,5 +1,5 @@
 -- The code of a program's main statements stands for them.
-use Rattle.std.proofs.Common.{◌≡◌, ◌≢◌, ℕ, ◌+◌, ◌-◌, ◌≤◌, ◌^◌, All, Bool, ℤ, pos, List, [], ◌∷◌, ◌++◌, length, Some, refl, sym, ap, ◌∙◌, subst, arith, append_assoc, length-append}
+use Rattle.std.proofs.Common.{◌≡◌, ◌≢◌, ℕ, ◌+◌, ◌-◌, ◌≤◌, All, Bool, ℤ, pos, List, [], ◌∷◌, ◌++◌, length, refl, sym, ap, ◌∙◌, subst, arith, append_assoc, length-append}
 use Rattle.std.proofs.Math.Seq.{drop-length}
 use Rattle.std.proofs.lemmas.List.{length-replicate}
 use Rattle.std.proofs.lemmas.List.Elements.{All-head, All-tail}
@@ -8,7 +8,7 @@ use Rattle.nona_tree.specs.declared.outcomes.Outcome.TheVariants as outcome
 use Rattle.nona_tree.specs.declared.trees.Loop.{Loop}
 use Rattle.nona_tree.specs.declared.trees.Stmt.{Stmt}
 use Rattle.nona_tree.specs.Memory.{Memory}
-use Rattle.nona_tree.specs.Run.{Ran, done, then_from, run, run_all}
+use Rattle.nona_tree.specs.Run.{done, then_from, run, run_all}
 use Rattle.nona_tree.specs.Scope.{AreScoped, is_let}
 use Rattle.nona_tree.specs.Beside.{on_end}
 use Rattle.nona_tree.specs.Entries.{Opened, count_in, entries, entries_all}
@@ -26,7 +26,7 @@ use Rattle.nona_gen.proofs.Fits.{code_fits}
 use Rattle.nona_gen.proofs.Values.{at}
 use Rattle.nona_gen.proofs.Lands.{cut_whole}
 use Rattle.nona_gen.proofs.Opened.{depth_is, lets, main_opens, Good, good_after}
-use Rattle.nona_gen.proofs.Parts.{Fine, around}
+use Rattle.nona_gen.proofs.Parts.{Fine}
 use Rattle.nona_gen.proofs.Stopping.{LeftIn, left_as, left_ended, left_whole, left_wider, entered_first, on_from}
 use Rattle.nona_gen.proofs.Standing.{ended_depth, none_less}
 use Rattle.nona_gen.proofs.MainRuns.{main_stops}

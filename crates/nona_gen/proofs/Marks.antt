@@ -1,11 +1,10 @@
 -- The mark of each instruction of code whose jumps all lead to the mark that stands there, one instruction after another.
-use Rattle.std.proofs.Common.{◌≡◌, ℕ, zero, suc, ◌+◌, ◌-◌, ◌<◌, ◌≤◌, List, [], ◌∷◌, ◌++◌, length, Some, refl, sym, ap, ◌∙◌, subst, arith, ⊎_elim}
-use Rattle.std.specs.Prelude.{slice_get, take, ◌⊎◌}
-use Rattle.std.proofs.lemmas.Option.{slice_get_within}
+use Rattle.std.proofs.Common.{◌≡◌, ℕ, zero, suc, ◌+◌, ◌<◌, ◌≤◌, List, [], ◌∷◌, ◌++◌, length, Some, refl, sym, ap, ◌∙◌, subst, arith, ⊎_elim}
+use Rattle.std.specs.Prelude.{slice_get, take}
 use Rattle.nona_code.specs.declared.instr.Instr.{Instr}
 use Rattle.nona_code.specs.declared.instr.Instr.TheVariants as instr
 use Rattle.nona_code.specs.declared.marks.Mark.{Mark}
-use Rattle.nona_code.specs.Rule.{Way, begins, goes_on, takes, puts, leaves, declares, after, start, IsNext, EndsEmpty, HasTarget, IsNumbered, UsesBelow, IsSound}
+use Rattle.nona_code.specs.Rule.{Way, begins, goes_on, takes, leaves, after, start, IsNext, EndsEmpty, HasTarget, IsNumbered, IsSound}
 use Rattle.nona_code.proofs.Placed.{Stands}
 
 -- the mark with these numbers

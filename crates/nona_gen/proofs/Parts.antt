@@ -9,7 +9,7 @@ use Rattle.nona_tree.specs.declared.trees.Stmt.{Stmt, Row_of-Stmt}
 use Rattle.nona_tree.specs.Memory.{Memory, scalar_at, cells_of, declare, assign, cut_to}
 use Rattle.nona_tree.specs.Value.{place_of, from_test, is_zero, value_of, cell_of}
 use Rattle.nona_tree.specs.Numbers.{IsI64, IsI64Stmt, IsI64Row}
-use Rattle.nona_tree.specs.Run.{Ran, done, starved, with_value, block, turn, run, run_row}
+use Rattle.nona_tree.specs.Run.{done, starved, with_value, block, turn, run, run_row}
 use Rattle.nona_tree.specs.Scope.{IsNamed, IsCellNamed}
 use Rattle.nona_tree.specs.Beside.{on_ok}
 use Rattle.nona_tree.specs.Deeds.{Deed, value_deeds}
@@ -20,7 +20,7 @@ use Rattle.nona_code.specs.declared.instr.Instr.TheVariants as instr
 use Rattle.nona_code.specs.Machine.{State, ended, goes, halts, act, act_deeds, opens, open_at, leave, where_so, first_hidden}
 use Rattle.nona_code.proofs.Placed.{Stands, front, back, open_before}
 use Rattle.nona_code.proofs.Traces.{Comes, Ends, most, most_more, one, last, Gives}
-use Rattle.nona_gen.specs.Code.{expr_code, flip_code, place_code, lets_row, leave_code}
+use Rattle.nona_gen.specs.Code.{expr_code, flip_code, place_code, leave_code}
 use Rattle.nona_gen.specs.Fit.{IsFitExpr}
 use Rattle.nona_gen.proofs.Values.{at, so, level, level_place, Leaves, values, flipped, bound, then_quiet, gives_length, gives_at}
 use Rattle.nona_code.specs.Stands.{on_cells}
@@ -203,6 +203,7 @@ module _ (code : List Instr) (n : ℕ) where
   flipped_here e p L A keep st h k m f fit named has =
       let named_here : IsNamed e (length m.scalars) (length m.arrays) = subst (λ x. IsNamed e x (length m.arrays)) (sym f.good.scalars) (subst (λ x. IsNamed e L x) (sym f.good.arrays) named) in
       flipped code n h k m e p st (cut_to keep m) fit named_here has (fine_leaves p L A keep h k m f)
+
   pub turn_good : {j : _} (row : Row_of-Stmt j) (L A : ℕ) (x : ℤ) (m : Memory) → IsI64Row row → IsI64 x → Good L A m → (run_row row n (declare x m)).end ≡ outcome.Done → Good L A (turn (run_row row n) x m).store
   turn_good row L A x m t fits good over =
       let d = declared_good L A x m fits good in

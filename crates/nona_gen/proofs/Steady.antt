@@ -1,9 +1,9 @@
 -- One statement after another keeps each scalar that none of them assigns.
-use Rattle.std.proofs.Common.{◌≡◌, ℕ, ◌<◌, ◌≤◌, [], ◌∷◌, length, refl, ◌∙◌, arith}
+use Rattle.std.proofs.Common.{◌≡◌, ℕ, ◌<◌, [], ◌∷◌, length, refl, ◌∙◌, arith}
 use Rattle.std.proofs.lemmas.List.Elements.{Contains-push}
 use Rattle.nona_tree.specs.declared.outcomes.Outcome.{Outcome}
 use Rattle.nona_tree.specs.declared.outcomes.Outcome.TheVariants as outcome
-use Rattle.nona_tree.specs.declared.trees.Stmt.{Stmt, Row_of-Stmt, end_of-Stmt, more_of-Stmt}
+use Rattle.nona_tree.specs.declared.trees.Stmt.{Row_of-Stmt, end_of-Stmt, more_of-Stmt}
 use Rattle.nona_tree.specs.Memory.{Memory, scalar_at}
 use Rattle.nona_tree.specs.Run.{Ran, then_from, run, run_row}
 use Rattle.nona_tree.specs.Scope.{IsRowSteady}

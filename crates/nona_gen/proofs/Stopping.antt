@@ -1,6 +1,6 @@
 -- What main code does up to its regions and its end: combinators beside those of courses.
-use Rattle.std.proofs.Common.{◌≡◌, ◌≢◌, ℕ, zero, suc, ◌+◌, ◌-◌, ◌≤◌, Bool, true, false, if◌then◌else◌, ℤ, List, [], ◌∷◌, ◌++◌, length, Some, refl, sym, ap, ◌∙◌, subst, arith, append_assoc}
-use Rattle.std.specs.Prelude.{slice_get, Result, Ok, Err, Option}
+use Rattle.std.proofs.Common.{◌≡◌, ◌≢◌, ℕ, suc, ◌+◌, ◌-◌, ◌≤◌, ℤ, List, [], ◌∷◌, ◌++◌, length, Some, refl, sym, ap, ◌∙◌, subst, arith, append_assoc}
+use Rattle.std.specs.Prelude.{slice_get, Result, Ok, Err}
 use Rattle.nona_tree.specs.declared.trees.Loop.{Loop}
 use Rattle.nona_tree.specs.declared.trees.Stmt.{For}
 use Rattle.nona_tree.specs.declared.outcomes.Trap.{Trap}
@@ -8,7 +8,7 @@ use Rattle.nona_tree.specs.declared.outcomes.Outcome.{Outcome}
 use Rattle.nona_tree.specs.declared.outcomes.Outcome.TheVariants as outcome
 use Rattle.nona_tree.specs.Memory.{Memory, cut_to}
 use Rattle.nona_tree.specs.Value.{value_of}
-use Rattle.nona_tree.specs.Run.{Ran, done, trapped, with_value, then_from, then_do, run}
+use Rattle.nona_tree.specs.Run.{Ran, trapped, with_value, then_from, run}
 use Rattle.nona_tree.specs.Scope.{IsScoped}
 use Rattle.nona_tree.specs.Beside.{on_ok, on_end}
 use Rattle.nona_tree.specs.Entries.{Opened}

@@ -1,5 +1,5 @@
 -- The code of the main statements of a program, which stops at each region.
-use Rattle.std.specs.Prelude.{ℕ, ◌+◌, Bool, if◌then◌else◌, List, [], ◌∷◌, ◌++◌, length}
+use Rattle.std.specs.Prelude.{◌≡◌, ℕ, ◌+◌, Bool, if◌then◌else◌, List, [], ◌∷◌, ◌++◌, length}
 use Rattle.nona_tree.specs.declared.trees.Loop.{Loop}
 use Rattle.nona_tree.specs.declared.trees.Stmt.{Stmt, If', While', For', Row_of-Stmt, end_of-Stmt, more_of-Stmt, items-the_row-Stmt}
 use Rattle.nona_tree.specs.Entries.{loop_with, count_in, count_row}
@@ -45,3 +45,7 @@ main_all chosen first (s ∷ rest) depth p =
 -- the code of the main statements of a program, whose regions have numbers from 1 on
 abbrev pub program_code : (Loop → Bool) → List Stmt → List Instr
 program_code chosen ss = main_all chosen 1 ss 0 0 ++ (instr.Stop ∷ [])
+
+-- the code of a main statement is that of a statement, wherever it stands
+abbrev pub IsPlain : (Loop → Bool) → Stmt → Type 0
+IsPlain chosen s = (first depth p : ℕ) → main_code chosen first s depth p ≡ stmt_code s depth p

@@ -25,11 +25,7 @@ pub(crate) fn gather_all<'a>(
 
 /// Adds those in a statement: none inside a region, and those of all blocks of another one.
 #[cycle(gather)]
-fn gather<'a>(
-    s: &'a Stmt,
-    plans: &Plans<'_>,
-    loops: &mut Vec<&'a Loop>,
-) -> Result<(), AllocError>
+fn gather<'a>(s: &'a Stmt, plans: &Plans<'_>, loops: &mut Vec<&'a Loop>) -> Result<(), AllocError>
     ensures { OnOk result (loops_of loops.new.items ≡ loops_of loops.old.items ++ regions_in (is_seen plans.now) s.now) }
 {
     match s {

@@ -42,7 +42,11 @@ fn region_of(alloc: Global, l: &Loop, plans: &Plans<'_>) -> Result<RegionCode, A
 }
 
 /// The regions of these loops, in the same order.
-fn regions_of(alloc: Global, loops: &[&Loop], plans: &Plans<'_>) -> Result<Vec<RegionCode>, AllocError>
+fn regions_of(
+    alloc: Global,
+    loops: &[&Loop],
+    plans: &Plans<'_>,
+) -> Result<Vec<RegionCode>, AllocError>
     requires { All BodyHasCode (loops_of loops.now) }
     ensures { IfOk result (λ regions. regions.items ≡ map (planned plans.now) (loops_of loops.now)) }
 {

@@ -117,11 +117,7 @@ pub(crate) fn open_while(at: u32, depth: u32, code: &mut Vec<Instr>) -> Result<u
 }
 
 /// Ends a `while` that began there: the jump to its test is written, and the test stands behind its body.
-pub(crate) fn close_while(
-    test: &Expr,
-    begin: u32,
-    code: &mut Vec<Instr>,
-) -> Result<(), AllocError>
+pub(crate) fn close_while(test: &Expr, begin: u32, code: &mut Vec<Instr>) -> Result<(), AllocError>
     requires small { begin < 2 ^ 31 }
     requires there { begin + 1 < length code.old.items }
     ensures { OnOk result (code.new.items

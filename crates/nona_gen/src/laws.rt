@@ -1,13 +1,12 @@
 //! What the code of main statements does.
 
-ghost use Rattle.std.specs.Prelude.{◌≡◌, ℕ, Bool, List, All};
+ghost use Rattle.std.specs.Prelude.{◌≡◌, Bool, List, All};
 ghost use Rattle.nona_tree.specs.declared.trees.Loop.{Loop};
 ghost use Rattle.nona_tree.specs.declared.trees.Stmt.{Stmt};
 ghost use Rattle.nona_tree.specs.Entries.{count_in};
 ghost use Rattle.nona_code.specs.Main.{StandsForMain};
 ghost use Rattle.nona_code.specs.Rule.{IsSound};
-ghost use Rattle.nona_gen.specs.Code.{stmt_code};
-ghost use Rattle.nona_gen.specs.MainCode.{main_code, program_code};
+ghost use Rattle.nona_gen.specs.MainCode.{program_code, IsPlain};
 ghost use Rattle.nona_gen.specs.Units.{HasCode};
 
 /// Says of the code of main statements, whatever test chooses their regions: that it stands for them, that it keeps the
@@ -15,5 +14,5 @@ ghost use Rattle.nona_gen.specs.Units.{HasCode};
 pub fn main_code_stands()
     ensures stands { (chosen : Loop → Bool) → (ss : List Stmt) → All HasCode ss → StandsForMain (program_code chosen ss) chosen ss }
     ensures sound { (chosen : Loop → Bool) → (ss : List Stmt) → All HasCode ss → IsSound (program_code chosen ss) }
-    ensures plain { (chosen : Loop → Bool) → (first : ℕ) → (s : Stmt) → (depth p : ℕ) → count_in chosen s ≡ 0 → main_code chosen first s depth p ≡ stmt_code s depth p }
+    ensures plain { (chosen : Loop → Bool) → (s : Stmt) → count_in chosen s ≡ 0 → IsPlain chosen s }
 {}

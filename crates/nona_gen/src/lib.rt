@@ -16,7 +16,6 @@ mod units;
 
 pub use emit::emit_expr;
 pub use image::generate;
-
 pub use laws::main_code_stands;
 pub use statements::emit_stmt;
 pub use units::{checked_has_code, code_stands, generate_unit, regions_have_code};

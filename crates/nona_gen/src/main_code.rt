@@ -12,8 +12,8 @@ use crate::jumps::{
     close_for, close_if, close_while, one_more, open_for, open_if, open_while, turn_if,
 };
 use crate::statements::{count_lets, emit_stmt, put_leave};
-use nona_stages::Plans;
 use nona_code::Instr;
+use nona_stages::Plans;
 use nona_tree::{Expr, Loop, Stmt};
 use std::alloc::{AllocError, Global};
 
@@ -84,7 +84,8 @@ fn emit_main_block(
     at: Standing,
     code: &mut Vec<Instr>,
 ) -> Result<u32, AllocError>
-    ensures code { OnOk result (code.new.items ≡ code.old.items ++ main_block (is_seen plans.now) at.first body.now at.depth (length code.old.items)) }
+    ensures code { OnOk result (code.new.items
+        ≡ code.old.items ++ main_block (is_seen plans.now) at.first body.now at.depth (length code.old.items)) }
     ensures next { IfOk result (λ next. next ≡ at.first + count_all (is_seen plans.now) body.now) }
 {
     let next = emit_main_all(body, plans, at, code)?;
@@ -103,7 +104,8 @@ fn emit_main_while(
     at: Standing,
     code: &mut Vec<Instr>,
 ) -> Result<u32, AllocError>
-    ensures code { OnOk result (code.new.items ≡ code.old.items ++ main_loop (is_seen plans.now) at.first test.now body.now word at.depth (length code.old.items)) }
+    ensures code { OnOk result (code.new.items
+        ≡ code.old.items ++ main_loop (is_seen plans.now) at.first test.now body.now word at.depth (length code.old.items)) }
     ensures next { IfOk result (λ next. next ≡ at.first + count_all (is_seen plans.now) body.now) }
 {
     let inside = deeper(at)?;

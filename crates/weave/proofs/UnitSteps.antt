@@ -4,11 +4,11 @@ use Rattle.nona_tree.specs.declared.outcomes.Outcome.{Outcome}
 use Rattle.nona_tree.specs.declared.outcomes.Outcome.TheVariants as outcome
 use Rattle.nona_tree.specs.declared.trees.Stmt.{Stmt}
 use Rattle.nona_tree.specs.Memory.{Memory, cut_to}
-use Rattle.nona_tree.specs.Run.{Ran as Run, run, Reaches}
+use Rattle.nona_tree.specs.Run.{Ran as Run, run}
 use Rattle.nona_units.specs.Units.{FirstReaches}
-use Rattle.nona_units.proofs.Statements.{BeginsWith, begins_with}
+use Rattle.nona_units.proofs.Statements.{begins_with}
 use Rattle.weave.specs.Net.{place_before, store_before}
-use Rattle.weave.specs.SeqNet.{SeqNet, Stand, Claims, Unit_of, Finished, left_iteration, at_units, behind_unit, unit_done, step_at}
+use Rattle.weave.specs.SeqNet.{SeqNet, Stand, Finished, left_iteration, at_units, behind_unit, unit_done, step_at}
 
 -- the place and the store before units
 arrived : (rest : List Stmt) (net : SeqNet) (r : Memory) → at_units rest (record net { store = r })

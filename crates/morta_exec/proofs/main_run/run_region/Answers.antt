@@ -7,9 +7,11 @@ use Rattle.morta_exec.proofs.main_run.run_region.Goals as goal
 
 pub leave-requires : goal.leave-requires
 leave-requires g c =
-    record { left = leave_on g.M.Morta.promise (g.F.MainFrame.left c.args.frame.now) (began c.args.start.now) c.args.morta.now c.run_entry.new.morta
-    c.args.log.now c.run_entry.new.log c.args.start.now.turns c.args.arrival.entry c.in_ok-store.store c.in_ok-store.end
-    c.requires.at c.in_ok-store.ensures.ended c.in_default.not-Done }
+    record {
+      left = leave_on g.M.Morta.promise (g.F.MainFrame.left c.args.frame.now) (began c.args.start.now) c.args.morta.now c.run_entry.new.morta
+          c.args.log.now c.run_entry.new.log c.args.start.now.turns c.args.arrival.entry c.in_ok-store.store c.in_ok-store.end
+          c.requires.at c.in_ok-store.ensures.ended c.in_default.not-Done;
+    }
 
 pub returns-in-Done-clause-goes_on : goal.returns-in-Done-clause-goes_on
 returns-in-Done-clause-goes_on g c =

@@ -1,7 +1,9 @@
 use Rattle.std.proofs.Common.{subst, refl, arith, rules, FitsSigned, w64}
 use Rattle.std.proofs.lemmas.Int.{to_z-of_z}
+use Rattle.fate_io.specs.Sending.{sent_since}
 use Rattle.nona_main.specs.Frame.{Stops}
-use Rattle.morta_exec.specs.Began.{began}
+use Rattle.morta_exec.specs.Began.{began, whole_run}
+use Rattle.morta_exec.proofs.Stopping.{handed_on}
 use Rattle.morta_exec.proofs.Passing.{shown_front}
 use Rattle.morta_exec.proofs.Coming.{front_put}
 use Rattle.morta_exec.proofs.Onward.{region_there}
@@ -41,3 +43,21 @@ pass_region-requires-clause-at g c =
     c.in-Region.number c.in-Region.low c.in-Region.high _ _
     w (subst (λ s. Stops later w.rest n s c.next.new.store) c.in-Region.is (c.in-Ok.ensures.stops w.rest w.left_is))
     refl (to_z-of_z w64 c.in-Region.low low) (to_z-of_z w64 c.in-Region.high high) c.arrive-arrival.ensures.opened
+
+-- memory ran out in the main statements
+pub returns-in-Err-clause-stopped : goal.returns-in-Err-clause-stopped
+returns-in-Err-clause-stopped g c =
+    front_put (sent_since g.K.Sink.written g.K.Sink.faults c.args.start.now.out.value c.args.out.now) c.args.store.printed (whole_run (began c.args.start.now)).store.printed
+    (through_prints (g.F.MainFrame.left c.args.frame.now c.args.start.now.turns) (began c.args.start.now) c.args.store c.args.count.now.value
+    (g.met.F.MainFrame.only_prints c.args.frame.now c.args.start.now.turns) c.requires.through) c.requires.put
+
+-- the sink broke off at their numbers
+pub returns-in_err-show-clause-stopped : goal.returns-in_err-show-clause-stopped
+returns-in_err-show-clause-stopped g c =
+    let n = c.args.start.now.turns in
+    let w = c.requires.through in
+    handed_on _ c.from_residual.result _ c.from_residual.ensures.1
+    (broken_more (sent_since g.K.Sink.written g.K.Sink.faults c.args.start.now.out.value c.show.new.out) c.next.new.store.printed (whole_run (began c.args.start.now)).store.printed c.in_err-show.field-0.0
+    (stop_prints (g.F.MainFrame.left c.args.frame.now n) (g.F.MainFrame.left c.next.new.self n) (began c.args.start.now) c.args.store c.next.new.store c.args.count.now.value c.in-Ok.stop
+    c.printed_grows.ensures.one (g.met.F.MainFrame.only_prints c.next.new.self n) w (c.in-Ok.ensures.stops w.rest w.left_is))
+    c.in_err-show.ensures.sent)

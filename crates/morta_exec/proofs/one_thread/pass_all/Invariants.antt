@@ -5,11 +5,11 @@ use Rattle.morta_exec.specs.Through.{IsThrough}
 use Rattle.morta_exec.proofs.one_thread.pass_all.Given as goal
 
 -- between two regions, or before the first
-abbrev pub invariant-loop-after : goal.invariant-loop-after
-invariant-loop-after g l = record {
+abbrev pub invariant-loop-count : goal.invariant-loop-count
+invariant-loop-count g l = record {
   through : IsThrough (g.F.MainFrame.left l.frame l.start.turns) (began l.start) l.store l.count.value;
   put : HasPut (sent_since g.K.Sink.written g.K.Sink.faults l.start.out.value l.out) l.store.printed;
 }
 
-abbrev pub decreases-loop-after : goal.decreases-loop-after
-decreases-loop-after g l = l.count.value
+abbrev pub decreases-loop-count : goal.decreases-loop-count
+decreases-loop-count g l = l.count.value

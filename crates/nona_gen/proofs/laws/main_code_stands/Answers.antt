@@ -10,4 +10,4 @@ pub returns-clause-sound : goal.returns-clause-sound
 returns-clause-sound c = program_sound
 
 pub returns-clause-plain : goal.returns-clause-plain
-returns-clause-plain c = main_plain
+returns-clause-plain c chosen s none first depth p = main_plain chosen first s depth p none

@@ -1,4 +1,4 @@
-use Rattle.std.proofs.Common.{◌≡◌, None, Some, sym, subst, ◌∙◌}
+use Rattle.std.proofs.Common.{None, Some, sym, subst, ◌∙◌}
 use Rattle.nona_code.specs.Rule.{IsSound}
 use Rattle.nona_code.specs.SoundView.{IsVerdict}
 use Rattle.nona_code.specs.Stands.{StandsFor}

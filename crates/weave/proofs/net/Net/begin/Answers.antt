@@ -1,7 +1,6 @@
-use Rattle.std.proofs.Common.{rules, arith, ap, subst, ◌∙◌, FitsSigned}
+use Rattle.std.proofs.Common.{rules, arith, subst, ◌∙◌, FitsSigned}
 use Rattle.std.specs.Int.{w64}
 use Rattle.std.proofs.lemmas.Int.{to_z-of_z}
-use Rattle.nona_tree.specs.declared.trees.Loop.{Loop}
 use Rattle.morta_task.specs.Entries.{before}
 use Rattle.weave.proofs.SeqLaws.{depth_after_some}
 use Rattle.weave.proofs.Sound.{sound_begun}

@@ -1,6 +1,5 @@
-use Rattle.std.proofs.Common.{rules, ◌≡◌, ◌<◌, ◌+◌, ◌^◌, length, arith, ap, sym, subst, ◌∙◌, drop}
+use Rattle.std.proofs.Common.{rules, ◌<◌, ◌+◌, ◌^◌, length, arith, ap, sym, subst, ◌∙◌, drop}
 use Rattle.nona_tree.specs.declared.outcomes.Outcome.{Outcome}
-use Rattle.nona_tree.specs.declared.trees.Loop.{Loop}
 use Rattle.nona_units.specs.Units.{FirstReaches}
 use Rattle.weave.specs.declared.net.Position.{Position}
 use Rattle.weave.specs.Net.{IsPlace, net_of, stand_of}
