@@ -1,6 +1,6 @@
 -- How the end of a replay follows from that of its drive.
 use Rattle.std.proofs.Common.{◌≡◌, ◌≤◌, ℕ, ℤ, List, [], ◌∷◌, length, ap, sym, refl, ◌∙◌, subst, Some, inl, inr, zero, suc, Bool, IsTrue}
-use Rattle.std.specs.Prelude.{map, slice_get}
+use Rattle.std.specs.Prelude.{map, slice_get, Result, Ok, Err, IfOk}
 use Rattle.std.specs.declared.option.Option.{Option}
 use Rattle.fate_io.specs.Sending.{Sent}
 use Rattle.nona_tree.specs.declared.trees.Loop.{Loop}
@@ -82,6 +82,11 @@ ends_full tree es ran stands memory asked log a b c f g h told s stops le sends 
 -- a store and a turn bound, as what a run begins with
 abbrev pub beginning : Memory → ℕ → Beginning
 beginning m n = record { store = m; turns = n }
+
+-- an image that equals one equals another that this is equal to
+pub image_as : {E : Type 0} (r : Result ImageView E) (one other : ImageView) → one ≡ other → IfOk r (λ image. image ≡ one) → IfOk r (λ image. image ≡ other)
+image_as (Ok image) one other same h = h ∙ same
+image_as (Err e) one other same h = h
 
 -- the run of a program's image is its meaning
 pub run_is : (p : Program) (input : List ℤ) (n : ℕ) (image : ImageView) (from : Beginning) → image ≡ replay_image p → from ≡ beginning (start_of p input) n

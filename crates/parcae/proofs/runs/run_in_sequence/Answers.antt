@@ -51,16 +51,16 @@ returns-in-Ok-run_through g c =
     (rw (← c.program-tree.ensures.program, ← c.new.ensures) c.finish.ensures.sends))
 
 -- the numbers were broken off
-pub returns-in-Err-run_through : goal.returns-in-Err-run_through
-returns-in-Err-run_through g c =
+pub returns : goal.returns
+returns g c =
     let sent : Sent = sent_since g.K.Sink.written g.K.Sink.faults c.args.out.now c.run_through.new.out in
     let p = c.args.program.now in
     let input = c.args.input.items in
     let n = c.args.turns in
     let meaning = run_is p input n c.in-Ok.image (beginning c.in-Ok-start.store n) c.in-Ok.ensures (ap (λ (m : Memory). beginning m n) c.in-Ok-start.ensures) in
-    rw (c.bare-in-Err-run_through.ensures, c.broken_status.ensures)
-    (ends_early (DueOfSeq p (meaning_of p input n) c.args.memory) sent (number_lines (meaning_of p input n).store.printed) c.in-Err-run_through.fault
-    seq_broken (subst (λ (r : Ran). BreaksOff sent (number_lines r.store.printed) c.in-Err-run_through.fault) meaning c.in-Err-run_through.ensures.sent))
+    rw (c.bare-in-Err.ensures, c.broken_status.ensures)
+    (ends_early (DueOfSeq p (meaning_of p input n) c.args.memory) sent (number_lines (meaning_of p input n).store.printed) c.in-Err.fault
+    seq_broken (subst (λ (r : Ran). BreaksOff sent (number_lines r.store.printed) c.in-Err.fault) meaning c.in-Err.ensures.sent))
 
 pub finish-requires-clause-vars : goal.finish-requires-clause-vars
 finish-requires-clause-vars g c =

@@ -1,0 +1,12 @@
+use Rattle.std.proofs.Common.{ap, ◌∙◌, List}
+use Rattle.nona_stages.specs.declared.seen.Seen.{Seen}
+use Rattle.morta_task.specs.OfSeen.{image_by}
+use Rattle.parcae.proofs.Replaying.{image_as}
+use Rattle.parcae.proofs.images.replay_image.Goals as goal
+
+pub returns : goal.returns
+returns c =
+    let p = c.args.program.now in
+    image_as c.generate.result _ _
+    (ap (image_by p) (c.deref.ensures.value ∙ c.in_ok-seen.ensures) ∙ c.images_keep.ensures.in_sequence p)
+    c.generate.ensures
