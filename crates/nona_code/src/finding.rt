@@ -55,7 +55,8 @@ pub fn find<B: Bank>(
     requires room { length registers.old.stack.items - takes instr.now + puts instr.now ≤ registers.old.stack.room }
     requires scalars { HasPlace instr.now (B.limits bank.old).room (length (B.state bank.old).scalars) }
     requires allowed { AllByRecursion (Allows (B.limits bank.old)) (act_deeds instr.now (state_of registers.old pc (B.state bank.old))) }
-    ensures finds { IsFound (does code.now turns pc instr.now registers.old (B.state bank.old)) result pc registers.new (B.state bank.new) (B.limits bank.old).firm }
+    ensures finds { IsFound (does code.now turns pc instr.now registers.old (B.state bank.old))
+        result pc registers.new (B.state bank.new) (B.limits bank.old).firm }
     ensures fits { HasRoomFor result registers.new.stack }
     ensures stops { StopKeeps result registers.old registers.new }
     ensures limits { B.limits bank.new ≡ B.limits bank.old }
@@ -174,7 +175,8 @@ pub fn find<B: Bank>(
 /// Gives the scalar with this id, visible or hidden, a value.
 fn save<B: Bank>(registers: &mut Registers, bank: &mut B, id: u32, value: i64)
     requires { IsThereIn id (length (B.state bank.old).scalars) (length registers.old.hidden.items) }
-    ensures saves { (pc : ℕ) → save id value (state_of registers.old pc (B.state bank.old)) ≡ goes (state_of registers.new (pc + 1) (B.state bank.new)) }
+    ensures saves { (pc : ℕ) → save id value (state_of registers.old pc (B.state bank.old))
+        ≡ goes (state_of registers.new (pc + 1) (B.state bank.new)) }
     ensures counters { registers.new.counters.items ≡ registers.old.counters.items }
     ensures limits { B.limits bank.new ≡ B.limits bank.old }
     ensures room { registers.new.stack.room ≡ registers.old.stack.room }

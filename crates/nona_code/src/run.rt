@@ -42,7 +42,8 @@ pub fn run_from<B: Bank>(
     requires over { IsOver (course code.now turns registers.old pc (B.state bank.old)).end }
     requires follows { IsOnWay code.now (B.limits bank.old).room registers.old pc (B.state bank.old) }
     requires allowed { AllByRecursion (Allows (B.limits bank.old)) (course code.now turns registers.old pc (B.state bank.old)).did }
-    ensures stops { HasStopped (course code.now turns registers.old pc (B.state bank.old)).end result registers.new (B.state bank.new) (B.limits bank.old).firm }
+    ensures stops { HasStopped (course code.now turns registers.old pc (B.state bank.old)).end
+        result registers.new (B.state bank.new) (B.limits bank.old).firm }
     ensures keeps { (hidden counters : ℕ) → UsesBelow hidden counters code.now → KeepsFrom hidden counters registers.old registers.new }
     ensures limits { B.limits bank.new ≡ B.limits bank.old }
     ensures room { registers.new.stack.room ≡ registers.old.stack.room }
@@ -67,7 +68,8 @@ fn run_on<B: Bank>(
     requires over { IsOver (course code.now turns registers.old pc (B.state bank.old)).end }
     requires follows { IsOnWay code.now (B.limits bank.old).room registers.old pc (B.state bank.old) }
     requires allowed { AllByRecursion (Allows (B.limits bank.old)) (course code.now turns registers.old pc (B.state bank.old)).did }
-    ensures stops { HasStopped (course code.now turns registers.old pc (B.state bank.old)).end result registers.new (B.state bank.new) (B.limits bank.old).firm }
+    ensures stops { HasStopped (course code.now turns registers.old pc (B.state bank.old)).end
+        result registers.new (B.state bank.new) (B.limits bank.old).firm }
     ensures keeps { (hidden counters : ℕ) → UsesBelow hidden counters code.now → KeepsFrom hidden counters registers.old registers.new }
     ensures limits { B.limits bank.new ≡ B.limits bank.old }
     ensures room { registers.new.stack.room ≡ registers.old.stack.room }

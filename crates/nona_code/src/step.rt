@@ -38,7 +38,8 @@ pub fn do_instr<B: Bank>(
     requires room { length registers.old.stack.items - takes instr.now + puts instr.now ≤ registers.old.stack.room }
     requires scalars { HasPlace instr.now (B.limits bank.old).room (length (B.state bank.old).scalars) }
     requires allowed { AllByRecursion (Allows (B.limits bank.old)) (act_deeds instr.now (state_of registers.old pc (B.state bank.old))) }
-    ensures acts { IsStep (does code.now turns pc instr.now registers.old (B.state bank.old)) result pc registers.new (B.state bank.new) (B.limits bank.old).firm }
+    ensures acts { IsStep (does code.now turns pc instr.now registers.old (B.state bank.old))
+        result pc registers.new (B.state bank.new) (B.limits bank.old).firm }
     ensures ends { EndKeeps result registers.old registers.new }
     ensures limits { B.limits bank.new ≡ B.limits bank.old }
     ensures room { registers.new.stack.room ≡ registers.old.stack.room }

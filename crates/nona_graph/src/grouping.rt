@@ -76,7 +76,8 @@ fn add_edges(rows: &mut [UnitSet], edges: &[(u32, u32)])
     requires few { length rows.now ≤ 64 }
     requires units { All (AreEnds (length rows.now)) edges.now }
     ensures size { length rows.new ≡ length rows.old }
-    ensures edges { (i j : ℕ) → IsUnit (length rows.old) i → IsUnit (length rows.old) j → has_at rows.new i j ≡ (has_at rows.old i j || has_edge edges.now i j) }
+    ensures edges { (i j : ℕ) → IsUnit (length rows.old) i → IsUnit (length rows.old) j
+        → has_at rows.new i j ≡ (has_at rows.old i j || has_edge edges.now i j) }
 {
     for edge in edges {
         add_edge(rows, *edge);

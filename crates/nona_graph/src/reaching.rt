@@ -44,7 +44,8 @@ pub fn add_edge(rows: &mut [UnitSet], edge: (u32, u32))
     requires few { length rows.now ≤ 64 }
     requires units { IsUnit (length rows.now) edge.0 × IsUnit (length rows.now) edge.1 }
     ensures size { length rows.new ≡ length rows.old }
-    ensures edges { (i j : ℕ) → IsUnit (length rows.old) i → IsUnit (length rows.old) j → has_at rows.new i j ≡ (has_at rows.old i j || ((edge.0 == i) && (edge.1 == j))) }
+    ensures edges { (i j : ℕ) → IsUnit (length rows.old) i → IsUnit (length rows.old) j
+        → has_at rows.new i j ≡ (has_at rows.old i j || ((edge.0 == i) && (edge.1 == j))) }
 {
     let at = (edge.0 - 1) as usize;
     rows[at] = union(rows[at], only(edge.1));

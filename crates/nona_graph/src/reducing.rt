@@ -74,7 +74,8 @@ fn after(usage: Usage, by: Option<Fold>) -> Usage
 /// Notes a place that names a scalar, where the scalar is one of these.
 fn note(uses: &mut [Usage], mention: Mention)
     ensures size { length uses.new ≡ length uses.old }
-    ensures uses { (id : ℕ) → id < length uses.old → use_at uses.new id ≡ (if mention.id == id then use_after (use_at uses.old id) mention.by else use_at uses.old id) }
+    ensures uses { (id : ℕ) → id < length uses.old
+        → use_at uses.new id ≡ (if mention.id == id then use_after (use_at uses.old id) mention.by else use_at uses.old id) }
 {
     let at = mention.id as usize;
     if at < uses.len() {

@@ -173,7 +173,8 @@ pub fn input_in<S: Shelf>(
     ensures gives { IfOk result (λ numbers. GivesInput (seen S.held shelf.old) (option_copied file.entry) numbers.items) }
     ensures few { IfOk result (λ numbers. length numbers.items ≤ number_bound) }
     ensures kept { IfOk result (λ numbers. All IsI64 numbers.items) }
-    ensures none { IfErr result (Stopped (NoInput (seen S.held shelf.old) (option_copied file.entry)) (looked_since S.held S.failed shelf.old shelf.new)) }
+    ensures none { IfErr result (Stopped (NoInput (seen S.held shelf.old) (option_copied file.entry))
+        (looked_since S.held S.failed shelf.old shelf.new)) }
 {
     match file {
         Some(name) => match read_file(alloc, Source::Input, name, shelf) {
