@@ -21,7 +21,7 @@ use Rattle.nona_code.specs.MainStops.{IsAtRegion, Stops, CanLeave}
 use Rattle.morta_task.specs.declared.opening.Opening.{Opening}
 use Rattle.morta_task.specs.RegionView.{RegionView}
 use Rattle.morta_task.specs.ImageView.{is_region_of}
-use Rattle.morta_task.specs.Entries.{EntryView, entered, IsEntered}
+use Rattle.morta_task.specs.Entries.{EntryView, entered}
 use Rattle.morta_task.specs.LogView.{LogView}
 use Rattle.morta_task.specs.Promise.{Promise}
 use Rattle.morta_task.specs.Legal.{begun, EndsAll}

@@ -18,19 +18,17 @@ use Rattle.nona_tree.specs.declared.trees.Stmt.{Stmt, For}
 use Rattle.nona_tree.specs.Memory.{Memory, Extends}
 use Rattle.nona_tree.specs.Value.{value_of}
 use Rattle.nona_tree.specs.Run.{Ran, run, run_all, turn, first_turns, done, Reaches}
-use Rattle.nona_tree.specs.Numbers.{IsI64}
 use Rattle.nona_tree.specs.Scope.{IsScoped, AreScoped}
 use Rattle.nona_tree.proofs.Equations.{scoped-For}
-use Rattle.nona_tree.specs.Entries.{Opened, Entry, after, entries_all, regions_all, count_all, IsEntryOf}
+use Rattle.nona_tree.specs.Entries.{Opened, Entry, after, entries_all, regions_all, IsEntryOf}
 use Rattle.nona_code.specs.Course.{Course, ended, course_of}
 use Rattle.nona_code.specs.declared.main_statements.Stop.{Stop}
 use Rattle.nona_code.specs.declared.main_statements.Stop.TheVariants as stops
-use Rattle.nona_code.specs.MainStops.{IsAtRegion, Stops, CanGoOn, CanLeave}
+use Rattle.nona_code.specs.MainStops.{IsAtRegion, Stops, CanLeave}
 use Rattle.morta_task.specs.declared.opening.Opening.{Opening}
 use Rattle.morta_task.specs.RegionView.{RegionView}
 use Rattle.morta_task.specs.ImageView.{ImageView, is_region_of}
 use Rattle.morta_task.specs.Entries.{EntryView, entered, IsEntered, last, before, loop_of, state_after, numbered_from}
-use Rattle.morta_task.specs.Running.{IsIn}
 use Rattle.morta_text.specs.Texts.{number_line, number_lines}
 use Rattle.nona_store.specs.declared.ended.Ended.{Ended}
 use Rattle.morta_exec.specs.declared.start.Beginning.{Beginning}
@@ -38,9 +36,9 @@ use Rattle.morta_exec.specs.Began.{Began, all_entries, whole_run, run_from}
 use Rattle.morta_exec.specs.EntryRun.{whole_loop, LoopsOfEntries}
 use Rattle.morta_exec.specs.MainRun.{IsOpened}
 use Rattle.morta_exec.specs.Puts.{HasPut}
-use Rattle.morta_exec.specs.Through.{IsThrough, IsBefore, GoesThrough}
+use Rattle.morta_exec.specs.Through.{IsThrough, IsBefore}
 use Rattle.morta_exec.proofs.Growing.{some_same, extends_same, extends_chain}
-use Rattle.morta_exec.proofs.Coming.{Grows, Prints, front_put}
+use Rattle.morta_exec.proofs.Coming.{Grows, Prints}
 use Rattle.morta_exec.proofs.Onward.{loop_run, region_there}
 
 -- the state before the first iteration

@@ -1,7 +1,7 @@
 -- The codes of statements and the regions of loops, one after another.
-use Rattle.std.proofs.Common.{◌≡◌, ◌<◌, ℕ, zero, suc, ◌++◌, List, [], ◌∷◌, length, sym, ap, subst, append_assoc, ◌∙◌, arith}
+use Rattle.std.proofs.Common.{◌≡◌, ◌<◌, ℕ, zero, suc, ◌++◌, List, [], ◌∷◌, length, sym, subst, append_assoc, ◌∙◌, arith}
 use Rattle.std.proofs.lemmas.List.{append-nil}
-use Rattle.std.specs.Prelude.{map, All, slice_index_or}
+use Rattle.std.specs.Prelude.{All, slice_index_or}
 use Rattle.std.proofs.lemmas.List.Elements.{All-head, All-tail}
 use Rattle.std.specs.Borrow.{Bor}
 use Rattle.nona_tree.specs.declared.trees.Loop.{Loop}
@@ -9,8 +9,6 @@ use Rattle.nona_tree.specs.declared.trees.Stmt.{Stmt}
 use Rattle.nona_code.specs.SoundView.{SoundView}
 use Rattle.nona_code.specs.Stands.{StandsFor}
 use Rattle.nona_units.specs.Units.{AreUnits}
-use Rattle.nona_stages.specs.declared.seen.Seen.{Seen}
-use Rattle.morta_task.specs.OfSeen.{planned}
 use Rattle.nona_gen.specs.Gathered.{loops_of}
 
 -- these codes stand for the first statements of a list, of which the others are left

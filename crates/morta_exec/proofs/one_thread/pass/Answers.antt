@@ -1,4 +1,4 @@
-use Rattle.std.proofs.Common.{subst, refl, arith, rules, FitsSigned, w64}
+use Rattle.std.proofs.Common.{subst, refl, rules, FitsSigned, w64}
 use Rattle.std.proofs.lemmas.Int.{to_z-of_z}
 use Rattle.fate_io.specs.Sending.{sent_since}
 use Rattle.nona_code.specs.MainStops.{Stops}

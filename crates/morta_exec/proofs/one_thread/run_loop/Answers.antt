@@ -1,9 +1,9 @@
-use Rattle.std.proofs.Common.{rules, ◌≡◌, ◌+◌, length, pos, ◌+ℤ◌, sym, ap, subst, ◌∙◌, arith, w64}
+use Rattle.std.proofs.Common.{rules, ◌≡◌, ◌+◌, length, ◌+ℤ◌, sym, ap, subst, ◌∙◌, arith, w64}
 use Rattle.std.proofs.lemmas.Int.{to_z-of_z}
 use Rattle.nona_tree.specs.Run.{Ran, done}
 use Rattle.nona_tree.specs.Scope.{AreScoped}
 use Rattle.morta_task.specs.Entries.{before, last}
-use Rattle.morta_exec.proofs.Through.{first_state, scoped_at, next_state, last_state, ends_at}
+use Rattle.morta_exec.proofs.Through.{scoped_at, next_state, last_state, ends_at}
 use Rattle.morta_exec.proofs.one_thread.run_loop.Goals as goal
 
 pub turn_units-requires-clause-scoped : goal.turn_units-requires-clause-scoped

@@ -5,7 +5,7 @@ use Rattle.nona_code.specs.Main.{StandsForMain}
 use Rattle.nona_stages.specs.declared.seen.Seen.{Seen}
 use Rattle.morta_task.specs.ImageKept.{CanRun}
 use Rattle.morta_task.specs.ImageView.{ImageView}
-use Rattle.morta_task.specs.OfSeen.{planned, image_by}
+use Rattle.morta_task.specs.OfSeen.{planned}
 use Rattle.nona_gen.specs.Gathered.{is_seen}
 use Rattle.nona_gen.proofs.image.generate.Goals as goal
 

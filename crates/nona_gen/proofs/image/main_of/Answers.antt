@@ -1,7 +1,5 @@
 use Rattle.std.proofs.Common.{◌≡◌, None, sym, subst, ap, ◌∙◌}
 use Rattle.nona_tree.specs.declared.trees.Program.{Program}
-use Rattle.nona_code.specs.declared.instr.Instr.{Instr}
-use Rattle.std.specs.Prelude.{List}
 use Rattle.nona_code.specs.Rule.{IsSound}
 use Rattle.nona_code.specs.SoundView.{IsVerdict}
 use Rattle.nona_gen.specs.Gathered.{is_seen}

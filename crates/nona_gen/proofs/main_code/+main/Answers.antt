@@ -1,12 +1,12 @@
 use Rattle.std.proofs.Common.{◌≡◌, ◌+◌, ◌++◌, length, sym, ap, ◌∙◌, arith}
-use Rattle.nona_tree.specs.Entries.{count_in, count_all}
+use Rattle.nona_tree.specs.Entries.{count_all}
 use Rattle.nona_gen.specs.Code.{expr_code, flip_code, lets_all, bounds_code}
-use Rattle.nona_gen.specs.MainCode.{main_code, main_all}
+use Rattle.nona_gen.specs.MainCode.{main_all}
 use Rattle.nona_gen.specs.MainParts.{main_block, main_loop}
 use Rattle.nona_gen.specs.Gathered.{is_seen}
 use Rattle.nona_gen.proofs.Emitting.{on_ok_as, if_ok_as}
 use Rattle.nona_gen.proofs.Patching.{if_emitted, while_emitted, for_emitted}
-use Rattle.nona_gen.proofs.MainEmitting.{count_if, count_while, count_for, count_region, code_if, code_while, code_for, code_region}
+use Rattle.nona_gen.proofs.MainEmitting.{count_if, count_while, count_for, code_if, code_while, code_for}
 use Rattle.nona_gen.proofs.main_code.+main.Goals as goal
 
 pub emit_main_for-returns-clause-code : goal.emit_main_for-returns-clause-code

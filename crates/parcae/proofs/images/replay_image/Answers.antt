@@ -1,5 +1,4 @@
-use Rattle.std.proofs.Common.{ap, ◌∙◌, List}
-use Rattle.nona_stages.specs.declared.seen.Seen.{Seen}
+use Rattle.std.proofs.Common.{ap, ◌∙◌}
 use Rattle.morta_task.specs.OfSeen.{image_by}
 use Rattle.parcae.proofs.Replaying.{image_as}
 use Rattle.parcae.proofs.images.replay_image.Goals as goal

@@ -9,7 +9,7 @@ use Rattle.morta_task.specs.LogView.{empty_log}
 use Rattle.morta_text.specs.Texts.{number_lines}
 use Rattle.parcae.specs.Told.{told_of, finished}
 use Rattle.parcae.specs.Ends.{Ends}
-use Rattle.parcae.specs.Due.{DueOfSeq, seq_ran, seq_broken, seq_unbegun, replay_image, behind_numbers}
+use Rattle.parcae.specs.Due.{DueOfSeq, seq_ran, seq_broken, seq_unbegun, behind_numbers}
 use Rattle.parcae.proofs.Ending.{ends_unbegun, ends_early, ends_behind}
 use Rattle.parcae.proofs.Replaying.{beginning, run_is}
 use Rattle.parcae.proofs.runs.run_in_sequence.Goals as goal
