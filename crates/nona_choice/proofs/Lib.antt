@@ -1,3 +1,2 @@
 pub mod Passing
 pub mod Steps
-pub mod Linking

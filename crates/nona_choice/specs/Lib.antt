@@ -1,3 +1,2 @@
 pub mod Picking
 pub mod Choices
-pub mod Links

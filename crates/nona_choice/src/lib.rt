@@ -1,11 +1,7 @@
-//! The choice of stages for a loop, and its plan.
+//! The choice of stages for the units of a loop.
 #![tactic(auto)]
 
-mod crossing;
 mod placing;
-mod planning;
 mod waiting;
 
-pub use crossing::links;
 pub use placing::stages;
-pub use planning::plan;

@@ -178,11 +178,10 @@ same_read : (xs : List Spot) (i : ℕ) (x y : Spot) → i < length xs → x ≡ 
 same_read xs i x y within p q = q ∙ get_or_default xs i y x within ∙ sym p
 
 pub meeting_found : (shape : LoopShape) (arrays new : List ℕ) (xs : List Spot) (i : ℕ) (x y : Spot) (r : Bool) → i < length xs → x ≡ slice_index_or xs i x → y ≡ slice_index_or xs i y
-    → r ≡ list_any (do_meet shape y) (take (length xs - i) (drop i xs)) → r ≡ true → new ≡ arrays ++ x.array ∷ []
+    → r ≡ list_any (do_meet shape y) (take (length xs - i) (drop i xs)) → r ≡ true → new ≡ arrays ++ (slice_index_or xs i x).array ∷ []
     → (a : ℕ) → (among a arrays || has_pair (meet_in shape a) (drop i xs)) ≡ (among a new || has_pair (meet_in shape a) (drop (i + 1) xs))
 meeting_found shape arrays new xs i x y r within p q e h g a =
     pair_found shape a arrays xs i x within (ap (λ z. list_any (do_meet shape z) (drop i xs)) (sym p ∙ sym (same_read xs i x y within p q)) ∙ ap (list_any (do_meet shape y)) (sym (the_rest xs i)) ∙ sym e ∙ h)
-    ∙ ap (λ (z : Spot). among a (arrays ++ z.array ∷ []) || has_pair (meet_in shape a) (drop (i + 1) xs)) (sym p)
     ∙ ap (λ ns. among a ns || has_pair (meet_in shape a) (drop (i + 1) xs)) (sym g)
 
 pub meeting_passed : (shape : LoopShape) (arrays : List ℕ) (xs : List Spot) (i : ℕ) (y : Spot) (r : Bool) → i < length xs → y ≡ slice_index_or xs i y

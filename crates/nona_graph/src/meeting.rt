@@ -47,7 +47,8 @@ fn push_meeting(
     arrays: &mut Vec<u32>,
 ) -> Result<(), AllocError>
     requires { at < length spots.now }
-    ensures { OnOk result ((a : ℕ) → (among a arrays.old.items || has_pair (meet_in shape.now a) (drop at spots.now)) ≡ (among a arrays.new.items || has_pair (meet_in shape.now a) (drop (at + 1) spots.now))) }
+    ensures { OnOk result ((a : ℕ) → (among a arrays.old.items || has_pair (meet_in shape.now a) (drop at spots.now))
+        ≡ (among a arrays.new.items || has_pair (meet_in shape.now a) (drop (at + 1) spots.now))) }
 {
     let array = spots[at].array;
     if meets_some(&spots[at], &spots[at..], shape) {

@@ -50,7 +50,8 @@ fn arrays_of(units: &[UnitNames], at: usize) -> &IdList
 fn scalars_meet(kept: &Ids, units: &[UnitNames], one: usize, other: usize) -> bool
     requires one { one < length units.now }
     requires other { other < length units.now }
-    ensures { (ids : List ℕ) → HaveSame kept.now ids → result ≡ list_any (λ id. among id (names_at units.now one).scalars && among id (names_at units.now other).scalars) ids }
+    ensures { (ids : List ℕ) → HaveSame kept.now ids
+        → result ≡ list_any (λ id. among id (names_at units.now one).scalars && among id (names_at units.now other).scalars) ids }
 {
     share(kept, scalars_of(units, one), scalars_of(units, other))
 }
@@ -59,7 +60,8 @@ fn scalars_meet(kept: &Ids, units: &[UnitNames], one: usize, other: usize) -> bo
 fn arrays_meet(kept: &Ids, units: &[UnitNames], one: usize, other: usize) -> bool
     requires one { one < length units.now }
     requires other { other < length units.now }
-    ensures { (ids : List ℕ) → HaveSame kept.now ids → result ≡ list_any (λ id. among id (names_at units.now one).arrays && among id (names_at units.now other).arrays) ids }
+    ensures { (ids : List ℕ) → HaveSame kept.now ids
+        → result ≡ list_any (λ id. among id (names_at units.now one).arrays && among id (names_at units.now other).arrays) ids }
 {
     share(kept, arrays_of(units, one), arrays_of(units, other))
 }
