@@ -10,10 +10,10 @@ use Rattle.nona_plans.specs.Components.{up_to}
 use Rattle.nona_plans.specs.Stages.{are_fed, with_front, pick, all_units}
 use Rattle.nona_choice.specs.Picking.{no_component, picked_at, with_fronts}
 
-next_of : {A : Type 0} (xs : List A) (i : ℕ) (d : A) → i < length xs → drop i xs ≡ slice_index_or xs i d ∷ drop (i + 1) xs
+pub next_of : {A : Type 0} (xs : List A) (i : ℕ) (d : A) → i < length xs → drop i xs ≡ slice_index_or xs i d ∷ drop (i + 1) xs
 next_of xs i d h = let next : suc i ≡ i + 1 = omega arith in drop-cons xs i d h ∙ ap (λ k. slice_index_or xs i d ∷ drop k xs) next
 
-found_more : (f b r : Bool) → (f || (b || r)) ≡ ((f || b) || r)
+pub found_more : (f b r : Bool) → (f || (b || r)) ≡ ((f || b) || r)
 found_more true b r = refl
 found_more false b r = refl
 

@@ -1,5 +1,5 @@
 -- Lists that are appended part by part, and what is still to come of a list.
-use Rattle.std.proofs.Common.{◌≡◌, ℕ, suc, ◌+◌, ◌<◌, List, ◌∷◌, ◌++◌, length, drop, ap, ◌∙◌, append_assoc, slice_index_or, arith}
+use Rattle.std.proofs.Common.{◌≡◌, ℕ, suc, ◌+◌, ◌<◌, List, ◌∷◌, ◌++◌, length, drop, refl, ap, ◌∙◌, append_assoc, slice_index_or, arith}
 use Rattle.std.proofs.Math.Seq.{drop-cons}
 
 pub next_of : {A : Type 0} (xs : List A) (i : ℕ) (d : A) → i < length xs → drop i xs ≡ slice_index_or xs i d ∷ drop (i + 1) xs

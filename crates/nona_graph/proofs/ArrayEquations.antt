@@ -1,5 +1,5 @@
 -- The arrays of the accesses of expressions and statements that hold others.
-use Rattle.std.proofs.Common.{◌≡◌, ℕ, ◌+◌, ◌<◌, length, take, append-nil, List, [], ◌∷◌, ◌++◌, map, refl, sym, ap, ◌∙◌, append_assoc}
+use Rattle.std.proofs.Common.{◌≡◌, ℕ, ◌+◌, ◌<◌, length, take, append-nil, false, List, [], ◌∷◌, ◌++◌, map, refl, sym, ap, ◌∙◌, append_assoc}
 use Rattle.std.proofs.lemmas.List.{map-append, take_more}
 use denote.Hole.Carrier.{hidden}
 use Rattle.std.specs.Prelude.{slice_index_or}

@@ -1,5 +1,5 @@
 -- Which expressions and statements that hold others are calm.
-use Rattle.std.proofs.Common.{◌≡◌, ℕ, ◌+◌, ◌<◌, ◌&&◌, Bool, true, false, List, ◌∷◌, ◌++◌, length, drop, refl, sym, ap, ◌∙◌, if◌then◌else◌}
+use Rattle.std.proofs.Common.{◌≡◌, ℕ, ◌+◌, ◌<◌, ◌&&◌, Bool, true, false, List, [], ◌∷◌, ◌++◌, length, drop, refl, sym, ap, ◌∙◌, if◌then◌else◌}
 use denote.Hole.Carrier.{hidden}
 use Rattle.std.specs.Prelude.{slice_index_or, is_some}
 use Rattle.nona_tree.specs.declared.trees.Op.{Op}

@@ -1,7 +1,8 @@
 -- How mentions name a scalar, one mention after another.
-use Rattle.std.proofs.Common.{◌≡◌, ℕ, suc, ◌+◌, ◌<◌, ◌==◌, ◌&&◌, Bool, true, false, nat_lt, List, [], ◌∷◌, ◌++◌, length, take, filter, refl, sym, ap, ◌∙◌, if◌then◌else◌, append-nil, slice_index_or, arith, Some, None}
+use Rattle.std.proofs.Common.{◌≡◌, ℕ, suc, ◌+◌, ◌<◌, ◌==◌, ◌&&◌, Bool, true, false, not, nat_lt, List, [], ◌∷◌, ◌++◌, length, take, filter, refl, sym, ap, ◌∙◌, if◌then◌else◌, append-nil, slice_index_or, arith, Some, None}
 use Rattle.std.proofs.lemmas.List.{take_more}
 use Rattle.std.proofs.lemmas.List.Elements.{filter-append}
+use Rattle.std.specs.Prelude.{is_some}
 use Rattle.std.specs.List.{list_all}
 use Rattle.std.specs.declared.option.Option.{Option}
 use Rattle.nona_num.specs.declared.folds.Fold.{Fold}
@@ -10,7 +11,7 @@ use Rattle.nona_plans.specs.declared.graphs.Mention.{Mention}
 use Rattle.nona_plans.specs.Mentions.{is_fold, is_by, fold_if, only_fold, reduction_of, mentions_all}
 use Rattle.nona_plans.specs.Units.{with_fold, reductions_below}
 use Rattle.nona_graph.specs.declared.reducing.Usage.{Usage}
-use Rattle.nona_graph.specs.Uses.{use_by, use_of, joined_by, use_after, use_at, ShowUses}
+use Rattle.nona_graph.specs.Uses.{is_named, use_by, use_of, joined_by, use_after, use_at, ShowUses}
 
 -- one mention more of a scalar
 alone : (by : Option Fold) → fold_if by [] ≡ by

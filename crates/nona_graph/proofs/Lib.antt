@@ -6,3 +6,7 @@ pub mod CalmEquations
 pub mod ArrayEquations
 pub mod MentionEquations
 pub mod Folding
+pub mod Sharing
+pub mod Pairs
+pub mod TieSteps
+pub mod EdgeSteps

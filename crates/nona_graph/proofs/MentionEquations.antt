@@ -1,5 +1,5 @@
 -- The scalars that expressions and statements name which hold others, and whether they print.
-use Rattle.std.proofs.Common.{◌≡◌, ℕ, ◌+◌, ◌<◌, ◌||◌, Bool, length, take, drop, append-nil, List, [], ◌∷◌, ◌++◌, refl, sym, ap, ◌∙◌, append_assoc}
+use Rattle.std.proofs.Common.{◌≡◌, ℕ, ◌+◌, ◌<◌, ◌||◌, Bool, true, false, length, take, drop, append-nil, List, [], ◌∷◌, ◌++◌, refl, sym, ap, ◌∙◌, append_assoc}
 use Rattle.std.proofs.lemmas.List.{take_more}
 use denote.Hole.Carrier.{hidden}
 use Rattle.std.specs.Prelude.{slice_index_or}

@@ -1,5 +1,6 @@
 -- Loops over lists, by what is still to come.
-use Rattle.std.proofs.Common.{◌≡◌, ℕ, zero, suc, ◌+◌, ◌<◌, ◌==◌, ◌&&◌, ◌||◌, Bool, true, List, [], ◌∷◌, length, drop, sym, ap, ◌∙◌, slice_index_or, arith, filter, ◌++◌, if◌then◌else◌, All, get_or}
+use Rattle.std.proofs.Common.{◌≡◌, ℕ, zero, suc, ◌+◌, ◌<◌, ◌==◌, ◌&&◌, ◌||◌, Bool, true, false, List, [], ◌∷◌, length, drop, refl, sym, ap, ◌∙◌, slice_index_or, arith, filter, ◌++◌, if◌then◌else◌, All, get_or}
+use Rattle.std.proofs.lemmas.List.{append-nil}
 use Rattle.std.proofs.lemmas.List.Elements.{filter-append}
 use Rattle.nona_forms.specs.Affine.{among}
 use Rattle.nona_plans.specs.declared.graphs.Tie.{Tie}

@@ -1,4 +1,4 @@
-use Rattle.std.proofs.Common.{◌≡◌, ◌==◌, ℕ, length}
+use Rattle.std.proofs.Common.{◌≡◌, ◌≤◌, ◌==◌, ℕ, length}
 use Rattle.nona_plans.specs.Walks.{IsUnit}
 use Rattle.nona_graph.specs.Sets.{has_at}
 use Rattle.nona_graph.proofs.grouping.singles.Given as goal

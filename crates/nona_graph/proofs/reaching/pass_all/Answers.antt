@@ -1,4 +1,4 @@
-use Rattle.std.proofs.Common.{◌≡◌, ◌∙◌, arith, subst, length}
+use Rattle.std.proofs.Common.{refl, ◌≡◌, ◌∙◌, ℕ, List, arith, subst, sym, length}
 use Rattle.nona_graph.specs.Sets.{ShowWalks}
 use Rattle.nona_graph.proofs.reaching.pass_all.Goals as goal
 

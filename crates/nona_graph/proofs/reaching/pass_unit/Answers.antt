@@ -1,4 +1,5 @@
-use Rattle.std.proofs.Common.{refl}
+use Rattle.std.proofs.Common.{refl, ◌≡◌, ℕ, List}
+use Rattle.nona_graph.specs.Sets.{ShowWalks}
 use Rattle.nona_graph.proofs.Rows.{walks_after}
 use Rattle.nona_graph.proofs.reaching.pass_unit.Goals as goal
 

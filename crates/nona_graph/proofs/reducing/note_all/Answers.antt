@@ -1,4 +1,4 @@
-use Rattle.std.proofs.Common.{◌∙◌}
+use Rattle.std.proofs.Common.{arith, ◌∙◌}
 use Rattle.nona_graph.proofs.Folding.{noted_next}
 use Rattle.nona_graph.proofs.reducing.note_all.Goals as goal
 
