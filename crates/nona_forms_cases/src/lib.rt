@@ -1,4 +1,4 @@
-//! Cases of forms, of the accesses of loops, of the dependence test and of the guard, and nothing else. A case takes a text
+//! Cases of forms, of the accesses of loops, of the dependence test, of plans and of the guard, and nothing else. A case takes a text
 //! through `parse` and `check`, calls what stands below, with memory as ample as the machine's, and compares the answer.
 #![tactic(auto)]
 
@@ -8,6 +8,8 @@ mod forms;
 mod guards;
 #[cfg(test)]
 mod pairs;
+#[cfg(test)]
+mod plans;
 #[cfg(test)]
 mod programs;
 #[cfg(test)]
