@@ -1,5 +1,5 @@
--- A program with its ids has the same numbers, and is checked where it has no fault.
-use Rattle.std.proofs.Common.{◌≡◌, ◌≤◌, ◌+◌, ℕ, true, List, [], ◌∷◌, sym, subst, ◌∙◌}
+-- A program with its ids has the same numbers.
+use Rattle.std.proofs.Common.{◌+◌, ℕ, true, List, [], ◌∷◌}
 use Rattle.std.specs.List.{AllByRecursion}
 use Rattle.std.proofs.lemmas.List.Elements.{All-from_recursion, recursion_from_All}
 use denote.Hole.Carrier.{hidden}
@@ -11,11 +11,7 @@ use Rattle.nona_tree.specs.declared.trees.VarDecl.{VarDecl}
 use Rattle.nona_tree.specs.declared.trees.Program.{Program}
 use Rattle.nona_tree.specs.Numbers.{IsI64, IsI64Expr, IsI64Stmt, IsI64Row, AreI64Stmts, IsI64Program}
 use Rattle.nona_tree.specs.Seen.{Seen, with_scalar, seen_after, seen_by_body}
-use Rattle.nona_tree.specs.Faults.{faults_of}
 use Rattle.nona_tree.specs.Ids.{expr_ids, stmt_ids, row_ids, all_ids, arrays_ids, vars_ids, ids_of}
-use Rattle.nona_tree.specs.Smallness.{size_bound, nesting_bound, IsSmall}
-use Rattle.nona_tree.specs.Checking.{IsChecked}
-use Rattle.nona_tree.proofs.Overwritten.{same_faults, same_ids, same_size, same_nesting}
 use Rattle.nona_tree.proofs.I64.{block_numbers}
 
 -- the numbers of an expression with ids
@@ -70,7 +66,3 @@ same_numbers p h = record {
   vars = All-from_recursion (λ (d : VarDecl). IsI64 d.value) (vars_ids p.vars 0) (numbers_vars p.vars 0 (recursion_from_All (λ (d : VarDecl). IsI64 d.value) p.vars h.vars));
   body = numbers_all p.body (seen_by_body p) h.body;
 }
-
-pub ids_checked : (p : Program) → IsSmall p → faults_of p ≡ [] → IsI64Program p → IsChecked (ids_of p)
-ids_checked p h none numbers =
-    ((subst (λ n. n ≤ size_bound) (sym (same_size p)) h.0, subst (λ n. n ≤ nesting_bound) (sym (same_nesting p)) h.1), same_faults p ∙ none, same_ids p, same_numbers p numbers)

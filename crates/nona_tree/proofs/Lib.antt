@@ -15,6 +15,7 @@ pub mod Overwritten
 pub mod FirstFault
 pub mod CellsFit
 pub mod IdsNumbers
+pub mod IdsPlaces
 pub mod Named
 pub mod InRegions
 pub mod Steady

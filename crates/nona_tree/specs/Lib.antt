@@ -8,6 +8,7 @@ pub mod Seen
 pub mod Faults
 pub mod Ids
 pub mod Smallness
+pub mod Places
 pub mod Checking
 pub mod Beside
 pub mod Entries

@@ -8,6 +8,7 @@ ghost use Rattle.nona_tree.specs.Checking.{IsChecked};
 ghost use Rattle.nona_tree.specs.Faults.{cell_bound, faults_of, IsFirstFault};
 ghost use Rattle.nona_tree.specs.Ids.{ids_of};
 ghost use Rattle.nona_tree.specs.Numbers.{IsI64Program};
+ghost use Rattle.nona_tree.specs.Places.{HasOwnPlaces};
 ghost use Rattle.nona_tree.specs.Smallness.{IsSmall, size_of, nesting_of};
 ghost use Rattle.nona_tree.specs.Run.{count_of, start_of};
 ghost use Rattle.nona_tree.specs.Scope.{AreScoped, AreSteady};
@@ -21,16 +22,17 @@ pub fn checked_is_scoped()
     ensures steady { (p : Program) → IsChecked p → AreSteady p.body [] }
 {}
 
-/// Says that ids change nothing of a program but themselves: with its ids it has the same faults, the same size and the same
-/// numbers, and it would be given the same ids again. So a small program of numbers of 64 bits without a fault is checked with
-/// its ids.
+/// Says that ids change nothing of a program but themselves: with its ids it has the same faults, the same size, the same
+/// numbers and its loops at the same places, and it would be given the same ids again. So a small program of numbers of 64 bits
+/// without a fault, whose loops have places of their own, is checked with its ids.
 pub fn ids_settle()
     ensures faults { (p : Program) → faults_of (ids_of p) ≡ faults_of p }
     ensures ids { (p : Program) → ids_of (ids_of p) ≡ ids_of p }
     ensures size { (p : Program) → size_of (ids_of p) ≡ size_of p }
     ensures nesting { (p : Program) → nesting_of (ids_of p) ≡ nesting_of p }
     ensures numbers { (p : Program) → IsI64Program p → IsI64Program (ids_of p) }
-    ensures checked { (p : Program) → IsSmall p → faults_of p ≡ [] → IsI64Program p → IsChecked (ids_of p) }
+    ensures places { (p : Program) → HasOwnPlaces p → HasOwnPlaces (ids_of p) }
+    ensures checked { (p : Program) → IsSmall p → faults_of p ≡ [] → IsI64Program p → HasOwnPlaces p → IsChecked (ids_of p) }
 {}
 
 /// Says that a program has one first fault at most, whatever its places are.

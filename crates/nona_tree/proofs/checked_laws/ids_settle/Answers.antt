@@ -1,5 +1,6 @@
 use Rattle.nona_tree.proofs.Overwritten.{same_faults, same_ids, same_size, same_nesting}
-use Rattle.nona_tree.proofs.IdsNumbers.{same_numbers, ids_checked}
+use Rattle.nona_tree.proofs.IdsNumbers.{same_numbers}
+use Rattle.nona_tree.proofs.IdsPlaces.{same_places, ids_checked}
 use Rattle.nona_tree.proofs.checked_laws.ids_settle.Goals as goal
 
 pub returns-clause-faults : goal.returns-clause-faults
@@ -19,3 +20,6 @@ returns-clause-checked c = ids_checked
 
 pub returns-clause-numbers : goal.returns-clause-numbers
 returns-clause-numbers c = same_numbers
+
+pub returns-clause-places : goal.returns-clause-places
+returns-clause-places c = same_places
