@@ -8,6 +8,7 @@ ghost use Rattle.nona_tree.specs.declared.faults.ProgramFault.{ProgramFault};
 ghost use Rattle.nona_tree.specs.Faults.{faults_of, IsFirstFault};
 ghost use Rattle.nona_tree.specs.Ids.{ids_of};
 ghost use Rattle.nona_tree.specs.Numbers.{IsI64Program};
+ghost use Rattle.nona_tree.specs.Places.{HasOwnPlaces};
 ghost use Rattle.nona_tree.specs.Smallness.{IsSmall};
 ghost use Rattle.nona_check.specs.First.{first_from};
 
@@ -59,7 +60,8 @@ fn resolve(alloc: Global, program: &Program) -> Result<(Program, Option<ProgramF
 ///
 /// `Refused` says that the program breaks one of them: it has the fault at the least place, and of several there the
 /// first one as `ProgramFault` lists them. `NoMemory` says nothing of the program. Either way the program that was passed
-/// is spent. That the program is small and its numbers are of 64 bits is what `parse` ensures; a checked program keeps it.
+/// is spent. That the program is small, that its numbers are of 64 bits and that its loops have places of their own is what
+/// `parse` ensures; a checked program keeps it.
 ///
 /// A name is found in a time logarithmic in the number of visible names. The memory is linear in the size of the
 /// program, and the depth of the stack in the depth of its blocks and expressions: a level of an expression takes some
@@ -67,6 +69,7 @@ fn resolve(alloc: Global, program: &Program) -> Result<(Program, Option<ProgramF
 pub fn check(alloc: Global, program: Program) -> Result<Checked, CheckFault>
     requires small { IsSmall program }
     requires numbers { IsI64Program program }
+    requires places { HasOwnPlaces program }
     ensures ids { IfOk result (λ checked. checked ≡ ids_of program) }
     ensures faultless { OnOk result (faults_of program ≡ []) }
     ensures refused { (fault : ProgramFault) → result ≡ Err (CheckFault.Refused fault) → IsFirstFault fault program }

@@ -14,4 +14,4 @@ pub of-requires : goal.of-requires
 of-requires c =
     let p = c.args.program in
     subst IsChecked (sym c.in_ok-resolved.ensures.ids)
-    (c.ids_settle.ensures.checked p c.requires.small (none_first (faults_of p) (sym c.in_ok-resolved.ensures.faults ∙ c.in-None.is)) c.requires.numbers)
+    (c.ids_settle.ensures.checked p c.requires.small (none_first (faults_of p) (sym c.in_ok-resolved.ensures.faults ∙ c.in-None.is)) c.requires.numbers c.requires.places)
