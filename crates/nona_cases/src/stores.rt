@@ -1,7 +1,7 @@
 //! The store of a program.
 
 use crate::programs::checked_of;
-use nona_store::{Store, read_numbers};
+use nona_store::{Overlay, Store, read_numbers};
 use std::alloc::{AllocError, Global};
 use std::process::Abort;
 use std::test::Fail;
@@ -38,5 +38,22 @@ fn a_store_and_its_copy(rt: HostRuntime) -> Result<(), Fail> {
     assert_holds(&rt, alloc, &began, want.as_str())?;
     let want = format!(in alloc; "Store {{ scalars: [5, 0, 8], {arrays}, printed: [3] }}")?;
     assert_holds(&rt, alloc, &store, want.as_str())?;
+    Ok(())
+}
+
+#[test]
+fn an_overlay_has_what_was_last_put(rt: HostRuntime) -> Result<(), Fail> {
+    let alloc = rt.alloc();
+    let mut overlay = Overlay::begin(alloc);
+    overlay.put(2, 0, 7)?;
+    overlay.put(1, 1, 5)?;
+    overlay.put(1, 1, -6)?;
+    let cells = [
+        overlay.get(1, 1),
+        overlay.get(2, 0),
+        overlay.get(1, 0),
+        overlay.get(0, 1),
+    ];
+    assert_eq!(rt; cells, [Some(-6), Some(7), None, None]);
     Ok(())
 }
