@@ -98,8 +98,9 @@ fn main_of(alloc: Global, program: &Checked, plans: &Plans<'_>) -> Result<Sound,
 /// calm.
 ///
 /// All code is verified, and stands for its statements. A place that is seen where no word `for` stands, or that of a loop
-/// inside a region, names none. Takes time and memory in proportion to the program, and for each loop outside regions a time
-/// logarithmic in the number of regions. It is refused for want of memory alone, and so is code of 2^31 instructions or more.
+/// inside a region, names none. Takes time and memory in proportion to the program and to the affine forms of its regions' indices
+/// and inner bounds, and for each loop outside regions a time logarithmic in the number of regions. It is refused for want of
+/// memory alone, and so is code of 2^31 instructions or more.
 pub fn generate(alloc: Global, program: &Checked, seen: &[Seen]) -> Result<Image, AllocError>
     requires calm { All (λ l. IsTrue (is_calm l)) (regions_all (is_among (seen_places seen.now)) program.now.body) }
     ensures { IfOk result (λ image. image ≡ image_by program.now seen.now) }
