@@ -23,3 +23,5 @@ pub mod SharingMachine
 pub mod BegunSharing
 pub mod TracedSharing
 pub mod Locating
+pub mod Whereabouts
+mod Examples

@@ -3,6 +3,7 @@ use Rattle.std.proofs.Common.{◌≡◌, ◌<◌, ◌≤◌, ◌+◌, ◌-◌, �
 use Rattle.std.proofs.lemmas.List.{get_or_push}
 use Rattle.net_flow.specs.Dealing.{number}
 use Rattle.net_flow.specs.Flow.{Position, Claims, Unit_at, Sends, Receives, SendsEnd, Finished, busy}
+use Rattle.net_flow.specs.Located.{IsLocated}
 use Rattle.net_flow.specs.Machines.{is_over, RunsOut, HasMover}
 use Rattle.net_flow.specs.MoveCounts.{pipeline_moves}
 use Rattle.net_flow.specs.Net.{Task, Net, task_at, moves_of, step, paused_net, is_finished}
@@ -10,6 +11,7 @@ use Rattle.net_flow.specs.Shapes.{Shape, IsPipeline, IsTask, task_of}
 use Rattle.net_flow.specs.Sound.{Holds, LawfulWork}
 use Rattle.net_flow.specs.Tracing.{noted, tracing, numbers, HasNoted, noting, IsTraced, traced_net, traced_machine}
 use Rattle.net_flow.proofs.BegunNet.{begun_is}
+use Rattle.net_flow.proofs.Whereabouts.{is_located}
 use Rattle.net_flow.proofs.Pipelines.{keeps, paused_keeps, net_runs_out, net_kept_out, net_moves, net_granted, never_stuck}
 
 module _ (shape : Shape) (is : IsPipeline shape) (limit : ℕ) where
@@ -85,3 +87,6 @@ module _ (shape : Shape) (is : IsPipeline shape) (limit : ℕ) where
       by_position (Receives e) h = h ∙ ap (numbers (shape.parallel s) shape.workers w) (none x.done)
       by_position (SendsEnd i) h = h ∙ ap (numbers (shape.parallel s) shape.workers w) (none x.done)
       by_position Finished h = h ∙ ap (numbers (shape.parallel s) shape.workers w) (none x.done)
+
+    pub traced_located : (k : ℕ) → k < net.granted → IsLocated (tracing shape) net k
+    traced_located k below = is_located (List ℕ) ℕ (tracing shape) (noting shape) is net here.sound k below

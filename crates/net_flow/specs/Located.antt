@@ -1,19 +1,34 @@
--- Where a granted number is.
-use Rattle.std.specs.Prelude.{ℕ, ◌+◌, ◌-◌, ◌<◌, ◌≤◌}
-use Rattle.net_flow.specs.Dealing.{over_link}
-use Rattle.net_flow.specs.Shapes.{Shape, worker_on}
-use Rattle.net_flow.specs.Flow.{Flow, busy, packets_on}
+-- Where the number of a granted iteration is.
+use Rattle.std.specs.Prelude.{◌≡◌, ℕ, ◌+◌, ◌-◌, ◌<◌, length, get_or}
+use Rattle.net_flow.specs.Dealing.{number}
+use Rattle.net_flow.specs.Shapes.{IsTask, task_of}
+use Rattle.net_flow.specs.Flow.{busy}
+use Rattle.net_flow.specs.Net.{Message, Packet, End, Work, Net, task_at, link_at}
 
--- how many packets of a link a stage has begun
-abbrev pub begun_on : Shape → Flow → ℕ → ℕ → ℕ
-begun_on shape f s l = let x = f s (worker_on (shape.parallel s) l) in over_link (shape.parallel s) shape.workers l (x.done + busy x.position)
+-- A place of a number: with the task of this stage and worker; in a packet of this link behind this stage, behind so many other
+-- messages; or done.
+pub data Whereabouts : Type 0 where
+  WithTask : ℕ → ℕ → Whereabouts
+  InPacket : ℕ → ℕ → ℕ → Whereabouts
+  Done : Whereabouts
 
--- the number with this place on this lane is with the task of a stage; or in the link behind it; or done
-abbrev pub AtTask : Shape → Flow → ℕ → ℕ → ℕ → Type 0
-AtTask shape f l j s = (s < shape.stages) × (packets_on shape f s l ≤ j) × (j < begun_on shape f s l)
+-- whether a message is the packet of the iteration with this number
+abbrev pub IsPacketOf : {P : Type 0} → ℕ → Message P → Type 0
+IsPacketOf k (Packet i p) = i ≡ k
+IsPacketOf k End = ⊥
 
-abbrev pub InLink : Shape → Flow → ℕ → ℕ → ℕ → Type 0
-InLink shape f l j s = (s + 1 < shape.stages) × (begun_on shape f (s + 1) l ≤ j) × (j < packets_on shape f s l)
+-- whether a number is at a place: the task is in its iteration; the message is its packet; or a task of the last stage has done it
+abbrev pub IsAt : {V P : Type 0} → Work V P → Net V P → ℕ → Whereabouts → Type 0
+IsAt work net k (WithTask s w) =
+    let x = task_at work net (task_of work.shape s w) in IsTask work.shape s w × (busy x.position ≡ 1) × (x.iteration ≡ k)
+IsAt work net k (InPacket r l i) =
+    let link = link_at work net r l in
+    (r + 1 < work.shape.stages) × (l < work.shape.workers) × (i < length link) × IsPacketOf k (get_or link i End)
+IsAt work net k Done =
+    let last = work.shape.stages - 1 in
+    (w : ℕ) × (d : ℕ) × IsTask work.shape last w × (d < (task_at work net (task_of work.shape last w)).done)
+    × (number (work.shape.parallel last) work.shape.workers w d ≡ k)
 
-abbrev pub IsDone : Shape → Flow → ℕ → ℕ → Type 0
-IsDone shape f l j = j < packets_on shape f (shape.stages - 1) l
+-- A number is at one place, and at no other.
+abbrev pub IsLocated : {V P : Type 0} → Work V P → Net V P → ℕ → Type 0
+IsLocated work net k = (at : Whereabouts) × IsAt work net k at × ((other : Whereabouts) → IsAt work net k other → other ≡ at)

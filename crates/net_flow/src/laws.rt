@@ -3,6 +3,7 @@
 
 ghost use Rattle.std.specs.Prelude.{◌≡◌, ℕ, ◌<◌, ◌≤◌, true, false, List, length};
 ghost use Rattle.net_flow.specs.Machines.{is_over, HasMover, RunsOut};
+ghost use Rattle.net_flow.specs.Located.{IsLocated};
 ghost use Rattle.net_flow.specs.MoveCounts.{pipeline_moves, sharing_moves};
 ghost use Rattle.net_flow.specs.Net.{Net, step, paused_net, is_finished, task_at, moves_of};
 ghost use Rattle.net_flow.specs.Shapes.{Shape, IsPipeline, IsTask};
@@ -20,13 +21,16 @@ pub fn pipeline_keeps()
 {}
 
 /// Says which iterations the tasks of a pipeline do. No claim is granted after a pause. At each moment a task has begun the first of
-/// its iterations, in order: all in a sequential stage, and in a parallel one those of its worker. Once all tasks have finished, no
-/// more was granted than the limit, and without a pause just the limit.
+/// its iterations, in order: all in a sequential stage, and in a parallel one those of its worker; and each number that was granted
+/// is at one task, in one packet, or done. Once all tasks have finished, no more was granted than the limit, and without a pause just
+/// the limit.
 pub fn pipeline_claims()
     ensures pause { (shape : Shape) (net : Net (List ℕ) ℕ) (t : ℕ) → net.paused ≡ true
         → ((step (tracing shape) net t).paused ≡ true) × ((step (tracing shape) net t).granted ≡ net.granted) }
     ensures noted { (shape : Shape) (limit s w : ℕ) (net : Net (List ℕ) ℕ) → IsPipeline shape → IsTraced shape limit net
         → IsTask shape s w → HasNoted shape net s w }
+    ensures located { (shape : Shape) (limit k : ℕ) (net : Net (List ℕ) ℕ) → IsPipeline shape → IsTraced shape limit net
+        → k < net.granted → IsLocated (tracing shape) net k }
     ensures granted { (shape : Shape) (limit : ℕ) (net : Net (List ℕ) ℕ) → IsPipeline shape → IsTraced shape limit net
         → is_over (traced_machine shape) net ≡ true → (net.granted ≤ limit) × (net.paused ≡ false → net.granted ≡ limit) }
 {}

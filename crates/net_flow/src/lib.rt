@@ -3,8 +3,8 @@
 //! It is one net for one task alone, for tasks that share the claims, and for a pipeline, and it knows nothing of what an iteration
 //! is. `specs/` defines machines of tasks that step one at a time (`Machines`), how iterations are dealt out round robin
 //! (`Dealing`), the shape of a net (`Shapes`), the net and its steps (`Net`, `Begun`), what stands of it at every moment (`Flow`,
-//! `Sound`, `Sharing`), how often its tasks move (`MoveCounts`), and nets whose tasks note their numbers (`Tracing`), of which
-//! the laws here speak.
+//! `Sound`, `Sharing`), where each granted number is (`Located`), how often its tasks move (`MoveCounts`), and nets whose tasks note
+//! their numbers (`Tracing`), of which the laws here speak.
 #![tactic(auto)]
 
 mod laws;
