@@ -9,7 +9,7 @@ use Rattle.net_flow.specs.MoveCounts.{beside, made, per_iteration}
 use Rattle.net_flow.specs.Net.{Work, Task, no_task, task_at}
 use Rattle.net_flow.specs.Shapes.{Shape, IsPipeline, IsTask, worker_on, tasks_in, first_task, task_of, link_of}
 use Rattle.net_flow.specs.Sound.{Meaning, Holds, messages, message, flow_of, IsSound, IsNet}
-use Rattle.net_flow.proofs.Counters.{idle_extra, idle_ends_sent}
+use Rattle.net_flow.proofs.MessageCounts.{idle_extra, idle_ends_sent}
 use Rattle.net_flow.proofs.Dealing.{dealt_none}
 use Rattle.net_flow.proofs.MovesMade.{worker_below}
 use Rattle.net_flow.proofs.Numbering.{first_mono, link_below}

@@ -4,7 +4,7 @@ use Rattle.std.proofs.lemmas.Bool.{cases_eq}
 use Rattle.net_flow.specs.Dealing.{due}
 use Rattle.net_flow.specs.Flow.{Claims, Unit_at, Sends, SendsEnd, Finished, Progress, Flow, sent, received, sent_on, received_on, is_closed, busy, IsProgress, IsFlow}
 use Rattle.net_flow.specs.Shapes.{Shape, IsPipeline, IsTask, HasLink, worker_on, links_of, first_link}
-use Rattle.net_flow.proofs.Counters.{idle_busy, idle_open, at_idle}
+use Rattle.net_flow.proofs.MessageCounts.{idle_busy, idle_open, at_idle}
 use Rattle.net_flow.proofs.FlowSteps.{behind, arrived, closing, sent_end, Advances, claims_one, claims_none, runs_unit, sends_packet, receives_packet, receives_end, sends_end, FlowStep, sends_over, receives_over}
 use Rattle.net_flow.proofs.LinkCounts.{may_send, may_receive, out_here, out_other, in_here, in_other}
 use Rattle.net_flow.proofs.TaskKept.{at_head, fits_on, head_is_task, due_mono, worker_is, has_link_on}
@@ -65,6 +65,7 @@ module _ (shape : Shape) (is : IsPipeline shape) (b : ℕ) (f : Flow) (here : Is
   claims_at_head y is_task (receives_end n q k at m next on most less e) off = m
   claims_at_head y is_task (sends_end k at m e) off = m
 
+  -- no claim is taken back
   pub claims_more : (y : Progress) → Advances shape f s w b c y → b ≤ c
   claims_more y (claims_one at m e) = omega (arith, m)
   claims_more y (claims_none at m e) = omega (arith, m)

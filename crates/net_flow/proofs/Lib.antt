@@ -1,6 +1,6 @@
 pub mod Dealing
 pub mod FlowSteps
-pub mod Counters
+pub mod MessageCounts
 pub mod TaskKept
 pub mod LinkCounts
 pub mod FlowKept

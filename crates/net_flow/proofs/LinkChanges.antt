@@ -3,7 +3,7 @@ use Rattle.std.proofs.Common.{◌≡◌, ◌⊎◌, ◌<◌, ◌+◌, ℕ, suc, 
 use Rattle.net_flow.specs.Dealing.{over_link}
 use Rattle.net_flow.specs.Flow.{Sends, Receives, SendsEnd, Finished, Progress, Flow, packets, sent, received, packets_on, sent_on, received_on, IsFlow}
 use Rattle.net_flow.specs.Shapes.{Shape, IsPipeline, HasLink, worker_on, links_of, first_link}
-use Rattle.net_flow.proofs.Counters.{over_link_other, arrived_done}
+use Rattle.net_flow.proofs.MessageCounts.{over_link_other, arrived_done}
 use Rattle.net_flow.proofs.FlowKept.{same_pair}
 use Rattle.net_flow.proofs.FlowSteps.{closing, took_end, sent_end, Advances, claims_one, claims_none, runs_unit, sends_packet, receives_packet, receives_end, sends_end, FlowStep, sends_over, receives_over}
 use Rattle.net_flow.proofs.LinkCounts.{out_other, in_here, in_other}

@@ -4,7 +4,7 @@ use Rattle.std.proofs.lemmas.Bool.{cases_eq}
 use Rattle.net_flow.specs.Dealing.{over_link, next_link}
 use Rattle.net_flow.specs.Flow.{Position, Claims, Unit_at, Sends, Receives, SendsEnd, Finished, Progress, Flow, extra, ends_sent, sent, received, packets_on, sent_on, IsFlow}
 use Rattle.net_flow.specs.Shapes.{Shape, IsPipeline, IsTask, HasLink, links_of}
-use Rattle.net_flow.proofs.Counters.{over_link_here, over_link_other, idle_received, idle_sent, arrived_received, arrived_sent, closing_sent, took_end_received, took_end_sent, sent_end_received, ends_sent_here, sent_end_here, sent_end_other}
+use Rattle.net_flow.proofs.MessageCounts.{over_link_here, over_link_other, idle_received, idle_sent, arrived_received, arrived_sent, closing_sent, took_end_received, took_end_sent, sent_end_received, ends_sent_here, sent_end_here, sent_end_other}
 use Rattle.net_flow.proofs.FlowSteps.{sent_end, Advances, claims_one, claims_none, runs_unit, sends_packet, receives_packet, receives_end, sends_end, sends_over, receives_over}
 use Rattle.net_flow.proofs.TaskKept.{packet_is_due, end_is_last, at_head}
 

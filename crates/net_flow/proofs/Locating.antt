@@ -6,7 +6,7 @@ use Rattle.std.proofs.Math.Nat.{mod-lt, div-add-mod}
 use Rattle.net_flow.specs.Dealing.{dealt, over_link}
 use Rattle.net_flow.specs.Flow.{Position, Claims, Unit_at, Sends, Receives, SendsEnd, Finished, Progress, Flow, extra, packets_on, sent_on, received_on, busy, IsFlow}
 use Rattle.net_flow.specs.Shapes.{Shape, IsPipeline, worker_on}
-use Rattle.net_flow.proofs.Counters.{over_link_mono}
+use Rattle.net_flow.proofs.MessageCounts.{over_link_mono}
 use Rattle.net_flow.proofs.Dealing.{dealt_up}
 use Rattle.net_flow.proofs.TaskKept.{has_link, worker_is, due_over_link_le, ends_sent_all}
 

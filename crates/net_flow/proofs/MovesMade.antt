@@ -7,7 +7,7 @@ use Rattle.net_flow.specs.Dealing.{dealt, due}
 use Rattle.net_flow.specs.Flow.{Position, Unit_at, Sends, Receives, SendsEnd, Finished, Progress, Flow, one_if, is_closed, IsPositionOf, IsFlow, idle}
 use Rattle.net_flow.specs.MoveCounts.{to_close, to_end, beside, made, per_iteration}
 use Rattle.net_flow.specs.Shapes.{Shape, IsPipeline, IsTask, HasLink, IsWorker, links_of, first_link, sum_to, tasks_in}
-use Rattle.net_flow.proofs.Counters.{at_idle}
+use Rattle.net_flow.proofs.MessageCounts.{at_idle}
 use Rattle.net_flow.proofs.Dealing.{dealt_none, dealt_here, dealt_other}
 use Rattle.net_flow.proofs.FlowSteps.{behind, arrived, closing, took_end, sent_end, Advances, claims_one, claims_none, runs_unit, sends_packet, receives_packet, receives_end, sends_end}
 use Rattle.net_flow.proofs.TaskKept.{at_head, packet_is_due, end_is_last}
@@ -156,7 +156,7 @@ pub below_worker : (p : Bool) (W w : ℕ) → w < tasks_in p W → IsWorker p W 
 below_worker true W w below = below
 below_worker false W w below = omega (arith, below)
 
--- sums of products, sums and constants
+-- sums of products, of sums and of constants
 pub sum_times : (n a : ℕ) (f : ℕ → ℕ) → sum_to n (λ w. f w * a) ≡ sum_to n f * a
 sum_times zero a f = omega arith
 sum_times (suc n) a f = let h = sum_times n a f in omega (arith, h)
@@ -169,6 +169,7 @@ pub sum_all : (n a : ℕ) → sum_to n (λ w. a) ≡ n * a
 sum_all zero a = omega arith
 sum_all (suc n) a = let h = sum_all n a in omega (arith, h)
 
+-- the moves by which all tasks of a stage come to know that no iteration follows, and those by which they say so
 pub closing_in : ℕ → ℕ → ℕ
 closing_in W zero = 1
 closing_in W (suc s) = W

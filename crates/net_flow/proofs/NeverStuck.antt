@@ -5,7 +5,7 @@ use Rattle.std.proofs.Math.Nat.{mod-lt, mul-le-mul_right}
 use Rattle.net_flow.specs.Dealing.{dealt, over_link, next_link, due, number}
 use Rattle.net_flow.specs.Flow.{Position, Claims, Unit_at, Sends, Receives, SendsEnd, Finished, Progress, Flow, extra, ends_sent, sent, received, sent_on, received_on, is_closed, busy, IsPositionOf, IsFlow}
 use Rattle.net_flow.specs.Shapes.{Shape, IsPipeline, IsTask, HasLink, IsWorker, worker_on, links_of}
-use Rattle.net_flow.proofs.Counters.{over_link_mono}
+use Rattle.net_flow.proofs.MessageCounts.{over_link_mono}
 use Rattle.net_flow.proofs.Dealing.{dealt_up, dealt_down, dealt_number, dealt_round}
 use Rattle.net_flow.proofs.FlowSteps.{Blocked}
 use Rattle.net_flow.proofs.TaskKept.{worker_is, has_link, next_link_below, has_below, due_over_link, due_over_link_le, sender_fits, ends_sent_all}
@@ -19,6 +19,7 @@ pub number_is : (p : Bool) (W w l d : ℕ) → 0 < W → l ≡ next_link p W w d
 number_is true W w l d some on = omega (arith, on)
 number_is false W w l d some on = dealt_number W l d some on
 
+-- the next iteration of a task that has done all its iterations isn't below the boundary, and that of another one is
 pub number_all : (p : Bool) (W w b d : ℕ) → IsWorker p W w → d ≡ due p W w b → b ≤ number p W w d
 number_all true W w b d is all = let h = dealt_up W w b d is (omega (arith, all)) in h
 number_all false W w b d is all = omega (arith, all)
@@ -56,12 +57,14 @@ all_over_link : (p : Bool) (W w l d : ℕ) → IsWorker p W w → HasLink p W w 
 all_over_link true W w l d is has = refl
 all_over_link false W w l d is has = dealt_round W l d has
 
+-- products
 times_le : (W a b : ℕ) → a ≤ b → a * W ≤ b * W
 times_le W a b h = mul-le-mul_right W h
 
 times_less : (W a b : ℕ) → a < b → 0 < W → a * W < b * W
 times_less W a b h some = let k : (a + 1) * W ≤ b * W = mul-le-mul_right W (let z : a + 1 ≤ b = omega (arith, h) in z) in omega (arith, k, some)
 
+-- the link that is next is one of the task
 pub next_link_has : (p : Bool) (W w n : ℕ) → 0 < W → HasLink p W w (next_link p W w n)
 next_link_has true W w n some = refl
 next_link_has false W w n some = mod-lt n some
@@ -205,7 +208,7 @@ module _ (shape : Shape) (is : IsPipeline shape) (b : ℕ) (f : Flow) (here : Is
       let fit : (s + 1 < shape.stages) × HasLink p W w m = subst (IsPositionOf shape s w) at fits.position in
       let below : m < W = has_below p W w m is_task.1 fit.1 in
       let all = fits.all (ap is_closed at) in
-      let none : ends_sent m (f s w).position ≡ 0 = ap (ends_sent m) at ∙ (Rattle.net_flow.proofs.Counters.ends_sent_here m).0 in
+      let none : ends_sent m (f s w).position ≡ 0 = ap (ends_sent m) at ∙ (Rattle.net_flow.proofs.MessageCounts.ends_sent_here m).0 in
       let shared = due_over_link p W w m b d fit.1 all.0 in
       let j = dealt W m b in
       let j_due : j ≤ dealt W m b = omega arith in

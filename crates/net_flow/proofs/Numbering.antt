@@ -21,6 +21,7 @@ task_below shape s w is_task =
     let h = task_within shape s w is_task in
     let up = first_mono shape (suc s) shape.stages (omega (arith, is_task.0)) in omega (arith, h, up)
 
+-- two tasks have two numbers
 pub task_apart : (shape : Shape) (s w r v : ℕ) → IsTask shape s w → IsTask shape r v → task_of shape r v ≡ task_of shape s w → (r ≡ s) × (v ≡ w)
 task_apart shape s w r v is_task other same = by_order (cases_lt r s) where
   by_same : (r ≡ s) → (r ≡ s) × (v ≡ w)
@@ -48,6 +49,7 @@ task_with shape (suc n) t within below = by_case (cases_lt t (first_task shape n
   by_case (inr most) before =
       (n, t - first_task shape n, (omega (arith, within), below_worker (shape.parallel n) shape.workers (t - first_task shape n) (omega (arith, below, most))), omega (arith, most))
 
+-- the numbers of links are apart, and below the number of all
 pub link_below : (shape : Shape) (r l : ℕ) → r + 1 < shape.stages → l < shape.workers → link_of shape r l < (shape.stages - 1) * shape.workers
 link_below shape r l within below =
     let h : (r + 1) * shape.workers ≤ (shape.stages - 1) * shape.workers = Rattle.std.proofs.Math.Nat.mul-le-mul_right shape.workers (let z : r + 1 ≤ shape.stages - 1 = omega (arith, within) in z) in

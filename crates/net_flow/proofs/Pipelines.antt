@@ -6,14 +6,14 @@ use Rattle.std.proofs.lemmas.Bool.Decides.{nat_tests}
 use Rattle.std.proofs.Math.Nat.{mul-le-mul_right}
 use Rattle.net_flow.specs.Dealing.{next_link, due}
 use Rattle.net_flow.specs.Flow.{Position, Claims, Unit_at, Sends, Receives, SendsEnd, Finished, Progress, received, sent, received_on, sent_on, is_closed, busy, IsPositionOf, IsProgress}
-use Rattle.net_flow.specs.Machines.{is_over, RunsOut}
+use Rattle.net_flow.specs.Machines.{is_over, round, RunsOut}
 use Rattle.net_flow.specs.MoveCounts.{pipeline_moves, to_close, to_end, beside, made, per_iteration}
 use Rattle.net_flow.specs.Net.{Message, Work, Task, Net, no_task, task_at, link_at, is_full, is_empty, waits_at, moved_at, step, is_finished, net_machine, moves_of, paused_net, waited}
 use Rattle.net_flow.specs.Shapes.{Shape, IsPipeline, IsTask, HasLink, worker_on, links_of, first_link, sum_to, tasks_in, first_task, task_of}
 use Rattle.net_flow.specs.Sound.{Meaning, LawfulWork, Holds, message, flow_of, IsSound, IsNet}
 use Rattle.net_flow.proofs.FlowSteps.{Blocked}
 use Rattle.net_flow.proofs.LinkContents.{count}
-use Rattle.net_flow.proofs.MachineProgress.{unfinished_is, finished_is, runs_out, kept_out}
+use Rattle.net_flow.proofs.MachineProgress.{unfinished_is, finished_is, round_rises, runs_out, kept_out}
 use Rattle.net_flow.proofs.MovesMade.{made_in, made_by_all, sum_same, below_worker, moved_in_all}
 use Rattle.net_flow.proofs.Numbering.{task_below, task_with}
 use Rattle.net_flow.proofs.StepForm.{rises, limit_kept, rest}
@@ -115,7 +115,7 @@ module _ (V P : Type 0) (work : Work V P) (m : Meaning V P) (is : IsPipeline wor
       (λ w below. sound.moves s w (within, below_worker (shape.parallel s) shape.workers w below))) in
       one ∙ two ∙ three ∙ four
 
-  bounded : (net : Net V P) → IsNet work m limit net → moves_of net ≤ most_moves work.shape limit
+  pub bounded : (net : Net V P) → IsNet work m limit net → moves_of net ≤ most_moves work.shape limit
   unfolding most_moves
   bounded net here =
       let shape = work.shape in
@@ -283,6 +283,15 @@ module _ (V P : Type 0) (work : Work V P) (m : Meaning V P) (is : IsPipeline wor
         let y = task_at work net t in
         let below : t < length net.tasks = let b = task_below work.shape mover.stage mover.worker mover.is_task in let e = here.sound.tasks in omega (arith, b, e) in
         (t, below, position_finished y.position mover.goes_on, free_is net here.sound mover.stage mover.worker mover.is_task mover.free (waits_at work net y y.position) refl)
+
+  -- a round moves some task, where not all have finished
+  pub net_round_rises : (net : Net V P) → IsNet work m limit net → is_over (net_machine work) net ≡ false
+      → IsNet work m limit (round (net_machine work) net) × (moves_of net < moves_of (round (net_machine work) net))
+  net_round_rises net here going =
+      round_rises (Net V P) (net_machine work) (IsNet work m limit) moves_of (most_moves work.shape limit)
+      bounded (λ n t s below goes. let k = keeps n t s below goes in let a = k.sound.tasks in a ∙ sym s.sound.tasks)
+      keeps (λ n t s below goes free. (rises V P work n t below goes free).0) (λ n t wait. rest V P work n t wait) never_stuck
+      net here going
 
   -- the net runs out
   pub net_runs_out : (net : Net V P) → IsNet work m limit net → (end : Net V P) × RunsOut (net_machine work) net end × IsNet work m limit end

@@ -2,12 +2,12 @@
 use Rattle.std.proofs.Common.{◌≡◌, ◌<◌, ◌≤◌, ◌+◌, ◌*◌, ℕ, Bool, true, false, refl, sym, ap, subst, ◌∙◌, arith, ◌⊎◌, inl, inr, List, length, inl, if◌then◌else◌}
 use Rattle.std.proofs.Math.Nat.{mul-le-mul_right}
 use Rattle.net_flow.specs.Flow.{Position, Claims, Unit_at, Sends, Receives, SendsEnd, Finished, busy}
-use Rattle.net_flow.specs.Machines.{is_over, RunsOut}
+use Rattle.net_flow.specs.Machines.{is_over, round, RunsOut}
 use Rattle.net_flow.specs.MoveCounts.{sharing_moves}
 use Rattle.net_flow.specs.Net.{Work, Task, Net, no_task, task_at, waits_at, moved_at, step, is_finished, net_machine, moves_of, paused_net, waited}
 use Rattle.net_flow.specs.Shapes.{sum_to}
 use Rattle.net_flow.specs.Sharing.{claimed_by, SharedMeaning, LawfulSharing, HoldsShared, sharing_beside, IsShared, IsSharedNet}
-use Rattle.net_flow.proofs.MachineProgress.{unfinished_is, finished_is, runs_out, kept_out}
+use Rattle.net_flow.proofs.MachineProgress.{unfinished_is, finished_is, round_rises, runs_out, kept_out}
 use Rattle.net_flow.proofs.MovesMade.{sum_same, sum_times, sum_add, sum_all}
 use Rattle.net_flow.proofs.Pipelines.{sum_mono, sum_list}
 use Rattle.net_flow.proofs.SharingSteps.{shared_moves, sharing_at}
@@ -71,7 +71,7 @@ module _ (V P : Type 0) (work : Work V P) (m : SharedMeaning V) (alone : work.sh
   begun_sum : (net : Net V P) → IsSharedNet work m limit many net → sum_to (length net.tasks) (λ t. let x = task_at work net t in x.done + busy x.position) ≡ net.granted
   begun_sum net here = sym (sum_list (Task V) (λ x. x.done + busy x.position) (no_task work) net.tasks) ∙ here.sound.begun
 
-  sharing_bounded : (net : Net V P) → IsSharedNet work m limit many net → moves_of net ≤ limit * (1 + work.shape.units 0) + many
+  pub sharing_bounded : (net : Net V P) → IsSharedNet work m limit many net → moves_of net ≤ limit * (1 + work.shape.units 0) + many
   sharing_bounded net here =
       let n = length net.tasks in
       let f = λ (t : ℕ). (task_at work net t).moves in
@@ -93,6 +93,15 @@ module _ (V P : Type 0) (work : Work V P) (m : SharedMeaning V) (alone : work.sh
       → (t : ℕ) × (t < length net.tasks) × (is_finished (task_at work net t).position ≡ false) × (waits_at work net (task_at work net t) (task_at work net t).position ≡ false)
   sharing_never_stuck net here going = let u = unfinished_is (Net V P) (net_machine work) net going in (u.0, u.1, u.2, free net here u.0 u.1)
 
+  -- a round moves some task, where not all have finished
+  pub sharing_round_rises : (net : Net V P) → IsSharedNet work m limit many net → is_over (net_machine work) net ≡ false
+      → IsSharedNet work m limit many (round (net_machine work) net) × (moves_of net < moves_of (round (net_machine work) net))
+  sharing_round_rises net here going =
+      round_rises (Net V P) (net_machine work) (IsSharedNet work m limit many) moves_of (limit * (1 + work.shape.units 0) + many) sharing_bounded
+      (λ n t s below goes. let k = sharing_keeps n t s below goes in k.tasks ∙ sym s.tasks)
+      sharing_keeps (λ n t s below goes go. (rises V P work n t below goes go).0) (λ n t wait. rest V P work n t wait) sharing_never_stuck net here going
+
+  -- the net runs out
   pub sharing_runs_out : (net : Net V P) → IsSharedNet work m limit many net → (end : Net V P) × RunsOut (net_machine work) net end × IsSharedNet work m limit many end
   sharing_runs_out net here =
       runs_out (Net V P) (net_machine work) (IsSharedNet work m limit many) moves_of (limit * (1 + work.shape.units 0) + many) sharing_bounded

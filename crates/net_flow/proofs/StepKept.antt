@@ -7,7 +7,7 @@ use Rattle.net_flow.specs.Flow.{Position, Claims, Unit_at, Sends, Receives, Send
 use Rattle.net_flow.specs.Net.{Message, Packet, End, Work, Task, Net, task_at, link_at, is_empty, waits_at, leaves, arrives, enters, closes, takes_end, passes_end, with_task, with_link, is_granted, after_receive, moved_at, is_finished}
 use Rattle.net_flow.specs.Shapes.{IsPipeline, IsTask, HasLink, IsWorker, worker_on, links_of, task_of, link_of}
 use Rattle.net_flow.specs.Sound.{Meaning, LawfulWork, Holds, message, flow_of, IsSound}
-use Rattle.net_flow.proofs.Counters.{over_link_here, idle_ends_sent, ends_sent_here, sent_end_here}
+use Rattle.net_flow.proofs.MessageCounts.{over_link_here, idle_ends_sent, ends_sent_here, sent_end_here}
 use Rattle.net_flow.proofs.FlowSteps.{arrived, closing, took_end, sent_end, Advances, claims_one, claims_none, runs_unit, sends_packet, receives_packet, receives_end, sends_end, sends_over, receives_over}
 use Rattle.net_flow.proofs.LinkChanges.{in_stays}
 use Rattle.net_flow.proofs.LinkContents.{held, packet_at, end_at, packet_sent, end_sent}

@@ -5,7 +5,7 @@ use Rattle.std.proofs.lemmas.Bool.Decides.{nat_tests}
 use Rattle.net_flow.specs.Dealing.{dealt, over_link, next_link, due}
 use Rattle.net_flow.specs.Flow.{Position, Claims, Unit_at, Sends, Receives, SendsEnd, Finished, Progress, Flow, extra, one_if, ends_sent, received, packets_on, sent_on, is_closed, busy, IsPositionOf, IsProgress, IsFlow, idle}
 use Rattle.net_flow.specs.Shapes.{Shape, IsPipeline, IsTask, HasLink, IsWorker, worker_on, links_of, first_link}
-use Rattle.net_flow.proofs.Counters.{idle_busy, idle_open, at_idle}
+use Rattle.net_flow.proofs.MessageCounts.{idle_busy, idle_open, at_idle}
 use Rattle.net_flow.proofs.Dealing.{dealt_here, dealt_mono, dealt_less}
 use Rattle.net_flow.proofs.FlowSteps.{behind, arrived, closing, took_end, sent_end, Advances, claims_one, claims_none, runs_unit, sends_packet, receives_packet, receives_end, sends_end}
 

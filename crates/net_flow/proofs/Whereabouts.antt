@@ -9,7 +9,7 @@ use Rattle.net_flow.specs.Flow.{Position, Claims, Unit_at, Sends, Receives, Send
 use Rattle.net_flow.specs.Net.{Message, End, Work, Task, Net, task_at, link_at}
 use Rattle.net_flow.specs.Sound.{Meaning, Holds, messages, message, flow_of, IsSound}
 use Rattle.net_flow.specs.Located.{Whereabouts, WithTask, InPacket, Done, IsPacketOf, IsAt, IsLocated}
-use Rattle.net_flow.proofs.Counters.{over_link_mono}
+use Rattle.net_flow.proofs.MessageCounts.{over_link_mono}
 use Rattle.net_flow.proofs.Dealing.{begun_one, number_on, number_done}
 use Rattle.net_flow.proofs.TaskKept.{has_link, worker_is, due_over_link, packets_few}
 use Rattle.net_flow.proofs.LinkContents.{count, packet_at, end_at}

@@ -1,7 +1,7 @@
 -- The flow of a pipeline: the tasks seen by two numbers each, their position and how many iterations they have done.
 use Rattle.std.specs.Prelude.{◌≡◌, ℕ, zero, suc, ◌+◌, ◌<◌, ◌≤◌, Bool, true, false, nat_lt}
-use Rattle.net_flow.specs.Dealing.{due, over_link}
-use Rattle.net_flow.specs.Shapes.{Shape, IsTask, HasLink, worker_on, links_of}
+use Rattle.net_flow.specs.Dealing.{over_link}
+use Rattle.net_flow.specs.Shapes.{Shape, IsTask, HasLink, worker_on, links_of, due_to}
 
 -- The position of a task: before a claim; before a unit of its iteration; before it sends the packet of its iteration; before a
 -- receive, where it has received so many Ends; before it sends an End over this link; or finished.
@@ -106,8 +106,8 @@ IsPositionOf shape s w Finished = Unit {0}
 -- more iterations than it has of b; and where it is closed, it has done all of these, and the head is closed.
 pub record IsProgress (shape : Shape) (s w b : ℕ) (closed : Bool) (x : Progress) : Type 0 where
   pub position : IsPositionOf shape s w x.position
-  pub within : x.done + busy x.position ≤ due (shape.parallel s) shape.workers w b
-  pub all : is_closed x.position ≡ true → (x.done ≡ due (shape.parallel s) shape.workers w b) × (closed ≡ true)
+  pub within : x.done + busy x.position ≤ due_to shape s w b
+  pub all : is_closed x.position ≡ true → (x.done ≡ due_to shape s w b) × (closed ≡ true)
 
 -- What stands of the tasks of a pipeline, where b claims were granted: the head has begun all of these iterations; each task has
 -- its progress; and over no link more was received than sent.

@@ -1,7 +1,6 @@
 -- Where the number of a granted iteration is.
 use Rattle.std.specs.Prelude.{◌≡◌, ℕ, ◌+◌, ◌-◌, ◌<◌, length, get_or}
-use Rattle.net_flow.specs.Dealing.{number}
-use Rattle.net_flow.specs.Shapes.{IsTask, task_of}
+use Rattle.net_flow.specs.Shapes.{IsTask, task_of, number_of}
 use Rattle.net_flow.specs.Flow.{busy}
 use Rattle.net_flow.specs.Net.{Message, Packet, End, Work, Net, task_at, link_at}
 
@@ -27,7 +26,7 @@ IsAt work net k (InPacket r l i) =
 IsAt work net k Done =
     let last = work.shape.stages - 1 in
     (w : ℕ) × (d : ℕ) × IsTask work.shape last w × (d < (task_at work net (task_of work.shape last w)).done)
-    × (number (work.shape.parallel last) work.shape.workers w d ≡ k)
+    × (number_of work.shape last w d ≡ k)
 
 -- A number is at one place, and at no other.
 abbrev pub IsLocated : {V P : Type 0} → Work V P → Net V P → ℕ → Type 0

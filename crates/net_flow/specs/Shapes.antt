@@ -1,5 +1,6 @@
 -- The shape of a net: its stages, the tasks that they have, and the links between them.
 use Rattle.std.specs.Prelude.{◌≡◌, ℕ, zero, suc, ◌+◌, ◌*◌, ◌<◌, ◌≤◌, Bool, true, false}
+use Rattle.net_flow.specs.Dealing.{due, number}
 
 -- how many stages and how many workers a net has, how many messages a link holds, which stages are parallel, and how many
 -- units each stage has
@@ -68,3 +69,11 @@ task_of shape s w = first_task shape s + w
 -- the number of a link behind a stage: links are numbered in order of stages and then workers
 abbrev pub link_of : Shape → ℕ → ℕ → ℕ
 link_of shape r l = r * shape.workers + l
+
+-- how many of the first b iterations a task has
+abbrev pub due_to : Shape → ℕ → ℕ → ℕ → ℕ
+due_to shape s w b = due (shape.parallel s) shape.workers w b
+
+-- the number of the iteration that a task has behind its first d ones
+abbrev pub number_of : Shape → ℕ → ℕ → ℕ → ℕ
+number_of shape s w d = number (shape.parallel s) shape.workers w d

@@ -27,7 +27,8 @@ pub record LawfulSharing {V P : Type 0} (work : Work V P) (m : SharedMeaning V) 
   pub unit : (t : ℕ) (claimants : List ℕ) (u : ℕ) (v : V) → length claimants < bound → u < work.shape.units 0
       → m.within t (claimed_by claimants t) (length claimants) u v
       → m.within t (claimed_by claimants t) (length claimants) (u + 1) (work.unit 0 u v)
-  pub leave : (t : ℕ) (claimants : List ℕ) (v : V) → length claimants < bound → m.within t (claimed_by claimants t) (length claimants) (work.shape.units 0) v
+  pub leave : (t : ℕ) (claimants : List ℕ) (v : V) → length claimants < bound
+      → m.within t (claimed_by claimants t) (length claimants) (work.shape.units 0) v
       → m.between t (claimed_by claimants t ++ length claimants ∷ []) (work.leave 0 v)
 
 -- What stands of a task within an iteration: its number is the one behind the claims before it, the task claimed it last, and its

@@ -1,7 +1,6 @@
 -- What stands of the net of a pipeline at every moment.
 use Rattle.std.specs.Prelude.{◌≡◌, ◌⊎◌, ℕ, zero, suc, ◌+◌, ◌-◌, ◌*◌, ◌<◌, ◌≤◌, true, nat_lt, if◌then◌else◌, List, [], ◌∷◌, length}
-use Rattle.net_flow.specs.Dealing.{number}
-use Rattle.net_flow.specs.Shapes.{IsTask, first_task, task_of}
+use Rattle.net_flow.specs.Shapes.{IsTask, first_task, task_of, number_of}
 use Rattle.net_flow.specs.Flow.{Position, Claims, Unit_at, Sends, Receives, SendsEnd, Finished, Flow, packets_on, sent_on, received_on, is_closed, IsFlow}
 use Rattle.net_flow.specs.MoveCounts.{made}
 use Rattle.net_flow.specs.Net.{Message, Packet, End, Work, Task, Net, task_at, link_at}
@@ -19,20 +18,20 @@ pub record Meaning (V P : Type 0) : Type 1 where
 -- iteration is left; and its packet is what is carried behind the stage.
 pub record LawfulWork {V P : Type 0} (work : Work V P) (m : Meaning V P) (bound : ℕ) : Type 0 where
   pub enter_head : (s w d : ℕ) (v : V) → s ≡ 0 → d < bound → m.between s w d v → m.within s w d 0 (work.enter s d work.no_packet v)
-  pub enter : (r s w d : ℕ) (v : V) → r + 1 ≡ s → IsTask work.shape s w → number (work.shape.parallel s) work.shape.workers w d < bound → m.between s w d v
-      → m.within s w d 0 (work.enter s (number (work.shape.parallel s) work.shape.workers w d) (m.carried r (number (work.shape.parallel s) work.shape.workers w d)) v)
-  pub unit : (s w d u : ℕ) (v : V) → IsTask work.shape s w → number (work.shape.parallel s) work.shape.workers w d < bound → u < work.shape.units s
+  pub enter : (r s w d : ℕ) (v : V) → r + 1 ≡ s → IsTask work.shape s w → number_of work.shape s w d < bound → m.between s w d v
+      → m.within s w d 0 (work.enter s (number_of work.shape s w d) (m.carried r (number_of work.shape s w d)) v)
+  pub unit : (s w d u : ℕ) (v : V) → IsTask work.shape s w → number_of work.shape s w d < bound → u < work.shape.units s
       → m.within s w d u v → m.within s w d (u + 1) (work.unit s u v)
-  pub leave : (s w d : ℕ) (v : V) → IsTask work.shape s w → number (work.shape.parallel s) work.shape.workers w d < bound
+  pub leave : (s w d : ℕ) (v : V) → IsTask work.shape s w → number_of work.shape s w d < bound
       → m.within s w d (work.shape.units s) v → m.between s w (d + 1) (work.leave s v)
-  pub packet : (s w d : ℕ) (v : V) → IsTask work.shape s w → number (work.shape.parallel s) work.shape.workers w d < bound
-      → m.within s w d (work.shape.units s) v → work.packet s v ≡ m.carried s (number (work.shape.parallel s) work.shape.workers w d)
+  pub packet : (s w d : ℕ) (v : V) → IsTask work.shape s w → number_of work.shape s w d < bound
+      → m.within s w d (work.shape.units s) v → work.packet s v ≡ m.carried s (number_of work.shape s w d)
 
 -- the values of a task with this position, and where it is in an iteration, the number of this one
 abbrev pub Holds : {V P : Type 0} → Work V P → Meaning V P → ℕ → ℕ → Position → Task V → Type 0
 Holds work m s w Claims x = m.between s w x.done x.values
-Holds work m s w (Unit_at u) x = m.within s w x.done u x.values × (x.iteration ≡ number (work.shape.parallel s) work.shape.workers w x.done)
-Holds work m s w Sends x = m.within s w x.done (work.shape.units s) x.values × (x.iteration ≡ number (work.shape.parallel s) work.shape.workers w x.done)
+Holds work m s w (Unit_at u) x = m.within s w x.done u x.values × (x.iteration ≡ number_of work.shape s w x.done)
+Holds work m s w Sends x = m.within s w x.done (work.shape.units s) x.values × (x.iteration ≡ number_of work.shape s w x.done)
 Holds work m s w (Receives e) x = m.between s w x.done x.values
 Holds work m s w (SendsEnd n) x = m.between s w x.done x.values
 Holds work m s w Finished x = m.between s w x.done x.values

@@ -1,19 +1,11 @@
 -- What one step of a task does to its counts of messages.
 use Rattle.std.proofs.Common.{◌≡◌, ◌≢◌, ◌⊎◌, ◌<◌, ◌≤◌, ◌+◌, ℕ, zero, suc, Bool, true, false, nat_lt, refl, sym, ap, ◌∙◌, arith, inl, inr, if◌then◌else◌}
-use Rattle.std.proofs.lemmas.Bool.{cases_lt}
-use Rattle.std.proofs.lemmas.Bool.Decides.{nat_tests}
+use Rattle.std.proofs.lemmas.Bool.Decides.{nat_tests, leb_tells}
 use Rattle.net_flow.specs.Dealing.{over_link, next_link}
 use Rattle.net_flow.specs.Flow.{Unit_at, Sends, Receives, SendsEnd, Finished, Progress, extra, one_if, ends_sent, sent, received, is_closed, busy, idle}
 use Rattle.net_flow.specs.Shapes.{Shape, HasLink, links_of, first_link}
 use Rattle.net_flow.proofs.Dealing.{dealt_here, dealt_other, dealt_mono}
 use Rattle.net_flow.proofs.FlowSteps.{behind, arrived, closing, took_end, sent_end}
-
--- whether one number is below another, with its fact
-pub tested : (a b : ℕ) → ((nat_lt a b ≡ true) × (a < b)) ⊎ ((nat_lt a b ≡ false) × (b ≤ a))
-tested a b = by_cases (cases_lt a b) where
-  by_cases : (a < b) ⊎ (b ≤ a) → ((nat_lt a b ≡ true) × (a < b)) ⊎ ((nat_lt a b ≡ false) × (b ≤ a))
-  by_cases (inl h) = inl (grind (arith, nat_tests), h)
-  by_cases (inr h) = inr (grind (arith, nat_tests), h)
 
 -- one iteration more is one more over the link that is next, and none over another
 pub over_link_here : (p : Bool) (W w l n : ℕ) → 0 < W → l ≡ next_link p W w n → over_link p W l (n + 1) ≡ over_link p W l n + 1
@@ -150,8 +142,8 @@ ends_sent_here m = (one (nat_lt m m) refl, two (nat_lt m (m + 1)) refl) where
   two false is = absurd (grind (arith, nat_tests))
 
 pub ends_sent_other : (l m : ℕ) → l ≢ m → ends_sent l (SendsEnd (m + 1)) ≡ ends_sent l (SendsEnd m)
-ends_sent_other l m other = ap one_if (let e : nat_lt l (m + 1) ≡ nat_lt l m = by_cases (tested l m) in e) where
-  by_cases : ((nat_lt l m ≡ true) × (l < m)) ⊎ ((nat_lt l m ≡ false) × (m ≤ l)) → nat_lt l (m + 1) ≡ nat_lt l m
+ends_sent_other l m other = ap one_if (let e : nat_lt l (m + 1) ≡ nat_lt l m = by_cases (leb_tells (suc l) m) in e) where
+  by_cases : ((nat_lt l m ≡ true) × (suc l ≤ m)) ⊎ ((nat_lt l m ≡ false) × (m < suc l)) → nat_lt l (m + 1) ≡ nat_lt l m
   by_cases (inl h) = let e : nat_lt l (m + 1) ≡ true = grind (arith, nat_tests) in e ∙ sym h.0
   by_cases (inr h) = let e : nat_lt l (m + 1) ≡ false = grind (arith, nat_tests) in e ∙ sym h.0
 
