@@ -4,7 +4,8 @@ use crate::counters::Counters;
 use crate::readings::Reading;
 use std::test::Fail;
 
-/// The reading before the first step, after three moves of two tasks, and after an iteration more.
+/// The readings before the first step, after a move of each of two tasks, after one more of one of them, and after two iterations
+/// and a move of a third task.
 fn readings() -> [Reading; 4] {
     let mut counters = Counters::new();
     let first = counters.reading();
