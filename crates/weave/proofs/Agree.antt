@@ -11,7 +11,7 @@ use Rattle.morta_task.specs.Legal.{last_in, begun, log_of, EachFrom, IsClosed, C
 use Rattle.morta_task.specs.LogView.{LogView}
 use Rattle.morta_task.specs.Running.{chosen, limit_of}
 use Rattle.weave.specs.declared.script.Command.{Command}
-use Rattle.weave.specs.Machines.{Machine, is_over, round, RunsOut, at_end, one_round}
+use Rattle.net_flow.specs.Machines.{Machine, is_over, round, RunsOut, at_end, one_round}
 use Rattle.weave.specs.SeqNet.{seq_machine, ran_of}
 use Rattle.weave.specs.Replay.{behind_use, left_behind, IsReplayedIn, IsReplayed, IsDriven, AreDriven, IsReplay}
 use Rattle.weave.proofs.OneMore.{Grown, grown}

@@ -10,7 +10,7 @@ use Rattle.morta_task.specs.declared.intervals.Ran.{Ran}
 use Rattle.morta_task.specs.Entries.{EntryView, IsEntered, before, last, state_after}
 use Rattle.morta_task.specs.Running.{IsHandoff, IsDone, HandsOn}
 use Rattle.weave.specs.declared.script.Command.{Command}
-use Rattle.weave.specs.Machines.{RunsOut}
+use Rattle.net_flow.specs.Machines.{RunsOut}
 use Rattle.weave.specs.Following.{Followed, follow}
 use Rattle.weave.specs.SeqNet.{SeqNet, seq_machine, begun_net, ran_of}
 use Rattle.weave.specs.Replay.{followed_in_sequence, commands_left, commands_left_in, IsReplayed, IsReplayedIn}

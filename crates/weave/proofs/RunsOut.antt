@@ -3,7 +3,7 @@ use Rattle.std.proofs.Common.{◌≡◌, ℕ, zero, suc, Bool, true, false, ◌&
 use Rattle.morta_task.specs.Entries.{IsEntered}
 use Rattle.weave.specs.declared.script.Command.{Command}
 use Rattle.weave.specs.declared.script.Command.TheVariants.{Use, Step, Pause}
-use Rattle.weave.specs.Machines.{is_over, step_times, stepped, round, RunsOut, at_end, one_round}
+use Rattle.net_flow.specs.Machines.{is_over, step_times, stepped, round, RunsOut, at_end, one_round}
 use Rattle.weave.specs.Following.{Followed, follow}
 use Rattle.weave.specs.SeqNet.{SeqNet, moved, is_finished, seq_machine}
 use Rattle.weave.specs.SeqState.{IsSound}

@@ -1,6 +1,6 @@
 -- The steps of a task, one after another.
 use Rattle.std.proofs.Common.{◌≡◌, ◌<◌, ◌+◌, ◌-◌, ℕ, zero, suc, Bool, true, false, refl, sym, ap, subst, ◌∙◌, arith, if◌then◌else◌}
-use Rattle.weave.specs.Machines.{step_times, RunsOut, at_end, one_round}
+use Rattle.net_flow.specs.Machines.{step_times, RunsOut, at_end, one_round}
 use Rattle.weave.specs.SeqNet.{SeqNet, moved, is_finished, seq_machine}
 use Rattle.weave.proofs.RunsOut.{over, round_is}
 

@@ -6,7 +6,7 @@ use Rattle.morta_task.specs.declared.limits.TheConstants.{TURNS}
 use Rattle.weave.specs.declared.limits.TheConstants.{LAST_TASK, MOVES}
 use Rattle.weave.specs.declared.script.Command.{Command}
 use Rattle.weave.specs.declared.script.Command.TheVariants.{Use, Step, Pause}
-use Rattle.weave.specs.Machines.{Machine, is_over, stepped}
+use Rattle.net_flow.specs.Machines.{Machine, is_over, stepped}
 
 -- how many iterations an interval may be asked to end after
 abbrev pub IsUntil : Option ℕ → Type 0

@@ -1,4 +1,3 @@
-pub mod Machines
 pub mod Following
 pub mod SeqNet
 pub mod Replay

@@ -13,7 +13,7 @@ use Rattle.morta_task.specs.LogView.{LogView}
 use Rattle.morta_task.specs.Running.{seq_one, limit_of}
 use Rattle.weave.specs.declared.script.Command.{Command}
 use Rattle.weave.specs.declared.script.Command.TheVariants.{Use, Step, Pause}
-use Rattle.weave.specs.Machines.{RunsOut}
+use Rattle.net_flow.specs.Machines.{RunsOut}
 use Rattle.weave.specs.Following.{Followed, follow}
 use Rattle.weave.specs.SeqNet.{SeqNet, begun_net, seq_machine, ran_of}
 

@@ -8,7 +8,7 @@ use Rattle.nona_tree.specs.Run.{Ran as Run, run}
 use Rattle.morta_task.specs.declared.intervals.Ran.{Ran}
 use Rattle.morta_task.specs.Entries.{EntryView}
 use Rattle.morta_task.specs.Running.{cut_of}
-use Rattle.weave.specs.Machines.{Machine}
+use Rattle.net_flow.specs.Machines.{Machine}
 
 -- where the task stands: before a claim, before a unit of its iteration, with those behind it, or finished
 pub data Stand : Type 0 where

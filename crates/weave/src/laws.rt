@@ -9,7 +9,7 @@ ghost use Rattle.morta_task.specs.Legal.{EndsAll, last_in};
 ghost use Rattle.morta_task.specs.LogView.{LogView};
 ghost use Rattle.weave.specs.declared.script.Command.{Command};
 ghost use Rattle.weave.specs.Following.{follow};
-ghost use Rattle.weave.specs.Machines.{RunsOut};
+ghost use Rattle.net_flow.specs.Machines.{RunsOut};
 ghost use Rattle.weave.specs.Replay.{IsReplay};
 ghost use Rattle.weave.specs.SeqNet.{SeqNet, seq_machine, begun_net};
 ghost use Rattle.weave.specs.SeqState.{HasMoved, HasEndedAfter};

@@ -4,7 +4,7 @@ ghost use Rattle.std.specs.Prelude.{◌≡◌, ◌≤◌, drop, false, IfOk, OnO
 ghost use Rattle.std.specs.Int.{int_gap};
 ghost use Rattle.morta_task.specs.Entries.{IsEntered, before, last};
 ghost use Rattle.morta_task.specs.Running.{IsHandoff};
-ghost use Rattle.weave.specs.Machines.{RunsOut, step_times as stepped_times};
+ghost use Rattle.net_flow.specs.Machines.{RunsOut, step_times as stepped_times};
 ghost use Rattle.weave.specs.SeqNet.{seq_machine, begun_net, claimed, step_at, moved, is_finished as has_finished, ran_of};
 ghost use Rattle.weave.specs.declared.net.Position.TheVariants as place;
 ghost use Rattle.weave.specs.Net.{place_before, store_before, stand_of, IsPlace, net_of, IsSet, IsNet};

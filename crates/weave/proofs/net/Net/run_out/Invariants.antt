@@ -1,4 +1,4 @@
-use Rattle.weave.specs.Machines.{RunsOut}
+use Rattle.net_flow.specs.Machines.{RunsOut}
 use Rattle.weave.specs.SeqNet.{SeqNet, seq_machine}
 use Rattle.weave.specs.SeqState.{moves_left}
 use Rattle.weave.specs.Net.{net_of, IsNet}

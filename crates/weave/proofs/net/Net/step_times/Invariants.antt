@@ -1,5 +1,5 @@
 use Rattle.std.proofs.Common.{◌≡◌, ◌-◌}
-use Rattle.weave.specs.Machines.{step_times}
+use Rattle.net_flow.specs.Machines.{step_times}
 use Rattle.weave.specs.SeqNet.{seq_machine}
 use Rattle.weave.specs.Net.{net_of, IsNet}
 use Rattle.weave.proofs.net.Net.step_times.Given as goal

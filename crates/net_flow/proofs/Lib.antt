@@ -1,0 +1,27 @@
+pub mod Dealing
+pub mod FlowSteps
+pub mod MessageCounts
+pub mod TaskKept
+pub mod LinkCounts
+pub mod FlowKept
+pub mod NeverStuck
+pub mod MovesMade
+pub mod Numbering
+pub mod LinkContents
+pub mod LinkChanges
+pub mod NetChange
+pub mod TaskChange
+pub mod StepKept
+pub mod MachineProgress
+pub mod StepForm
+pub mod Pipelines
+pub mod BegunNet
+pub mod TracedPipelines
+pub mod Claimants
+pub mod SharingSteps
+pub mod SharingMachine
+pub mod BegunSharing
+pub mod TracedSharing
+pub mod Locating
+pub mod Whereabouts
+mod Examples

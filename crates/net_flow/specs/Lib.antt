@@ -1,0 +1,11 @@
+pub mod Machines
+pub mod Dealing
+pub mod Shapes
+pub mod Flow
+pub mod MoveCounts
+pub mod Net
+pub mod Begun
+pub mod Sound
+pub mod Sharing
+pub mod Tracing
+pub mod Located
