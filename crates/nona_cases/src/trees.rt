@@ -6,7 +6,9 @@ use std::test::Fail;
 
 /// A loop with each kind of statement and of expression in it.
 const TEXT: &[u8] =
-    b"array a[4]; var x = 1; for i in 0..2 { let t = x; x = t << 2; x min= -3 - !4; a[wrap 1 + len(a)] = a[0]; a[1] += 3; if x { print 1; } else { print 2; } while x > 0 { x = 0; } seq for j in i..i + 1 {} }";
+    b"array a[4]; var x = 1; for i in 0..2 { let t = x; x = t << 2; x min= -3 - !4; \
+    a[wrap 1 + len(a)] = a[0]; a[1] += 3; if x { print 1; } else { print 2; } \
+    while x > 0 { x = 0; } seq for j in i..i + 1 {} }";
 
 #[test]
 fn a_loop_and_its_copy_look_alike(rt: HostRuntime) -> Result<(), Fail> {

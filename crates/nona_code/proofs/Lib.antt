@@ -13,4 +13,5 @@ pub mod Highest
 pub mod Numbering
 pub mod Resting
 pub mod Allowed
+pub mod MainPrints
 pub mod MainRuns

@@ -18,7 +18,7 @@ use Rattle.nona_code.specs.declared.instr.Instr.{Instr}
 use Rattle.nona_code.specs.declared.instr.Instr.TheVariants as instr
 use Rattle.nona_code.specs.Machine.{State, Halt, ended, region, stuck, Next, goes, halts, act, open_at, step_by, Trace, trace, onward, most_steps, onto, where_so, given, pushed, stored, leave, first_hidden, take_two}
 use Rattle.nona_code.specs.Main.{HaltsAt, behind, Left, over, stops, leaves}
-use Rattle.nona_code.specs.MainPrints.{one_next, two_next, so_next, if_next, given_next}
+use Rattle.nona_code.proofs.MainPrints.{one_next, two_next, so_next, if_next, given_next, left_prints}
 use Rattle.nona_code.specs.Rule.{Way, goes_on, IsSound}
 use Rattle.nona_code.specs.declared.main_frame.CodeFrame.{CodeFrame}
 use Rattle.nona_code.specs.MainLeft.{IsLeft, state_in}
@@ -182,6 +182,7 @@ frame_at_region frame after code n m k number low high sound is same room at c l
       rest = here.rest;
       goes_on = record {
         left = subst (λ (v : SoundView). Left v.instrs n (state_in after (run (For here.looped) n k).store) (run (For here.looped) n k).end here.rest) (sym same) here.on;
+        prints = left_prints own n _ _ here.rest here.on;
         room = omega (arith, ap (λ (v : SoundView). v.deepest) same, room, left.room);
         base = left.base;
         follows = subst (λ (v : SoundView). Follows v.instrs left.base (state_in after (run (For here.looped) n k).store)) (sym same) way;

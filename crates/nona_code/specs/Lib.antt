@@ -12,6 +12,5 @@ pub mod Course
 pub mod MainStops
 pub mod Main
 pub mod MainLeft
-pub mod MainPrints
 pub mod Worked
 pub mod Found

@@ -2,7 +2,7 @@
 use Rattle.std.specs.Prelude.{◌≤◌, ℕ, Bool, List, length}
 use Rattle.nona_tree.specs.declared.trees.Loop.{Loop}
 use Rattle.nona_tree.specs.declared.trees.Stmt.{Stmt}
-use Rattle.nona_tree.specs.Memory.{Memory}
+use Rattle.nona_tree.specs.Memory.{Memory, Extends}
 use Rattle.nona_tree.specs.Numbers.{AreI64}
 use Rattle.nona_tree.specs.Run.{Ran, done}
 use Rattle.nona_tree.specs.Scope.{AreScoped}
@@ -18,10 +18,11 @@ use Rattle.nona_code.specs.Stops.{Follows}
 abbrev pub state_in : CodeFrame → Memory → State
 state_in frame m = state_of frame.registers frame.pc m
 
--- with this turn bound, and once the region at hand has ended so, this course is to come of a frame: its code has it to come, its
--- stack has room for the code, and a way of the code leads to where it stands
+-- with this turn bound, and once the region at hand has ended so, this course is to come of a frame: its code has it to come, and
+-- it only adds to what is printed; its stack has room for the code, and a way of the code leads to where it stands
 pub record IsLeft (frame : CodeFrame) (n : ℕ) (r : Ran) (course : Course) : Type 0 where
   pub left : Left frame.code.now.instrs n (state_in frame r.store) r.end course
+  pub prints : Extends r.store.printed course.ran.store.printed
   pub room : frame.code.now.deepest ≤ frame.registers.stack.room
   pub base : ℕ
   pub follows : Follows frame.code.now.instrs base (state_in frame r.store)

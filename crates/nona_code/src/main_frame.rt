@@ -3,7 +3,6 @@
 ghost use Rattle.std.specs.Prelude.{◌≡◌, ◌<◌, ◌≤◌, ◌^◌, length, IfOk};
 ghost use Rattle.nona_code.specs.Machine.{open_at, leave};
 ghost use Rattle.nona_code.specs.MainLeft.{IsLeft, BeginsMain};
-ghost use Rattle.nona_code.specs.MainPrints.{left_prints};
 
 use crate::instr::Instr;
 use crate::main_statements::{MainFrame, Stop};
@@ -75,5 +74,5 @@ impl<'a> MainFrame for CodeFrame<'a> {
         leave_around(self.code.instrs(), self.pc, store);
     }
 
-    ghost only_prints = { left_prints };
+    ghost only_prints = { λ frame n r course is. is.prints };
 }

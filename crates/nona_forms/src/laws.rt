@@ -1,6 +1,7 @@
 //! Laws of the forms of a loop. Each function does nothing when it is called: its contract is the law.
 
-ghost use Rattle.std.specs.Prelude.{◌≡◌, ℕ, ◌<◌, ◌*◌, ℤ, pos, ◌+ℤ◌, ◌*ℤ◌, List, [], true, false, ◌≤ℤ◌, ◌<ℤ◌, All, IsTrue, Ok, Some};
+ghost use Rattle.std.specs.Prelude.{◌≡◌, ℕ, ◌<◌, ◌*◌, ℤ, pos, ◌+ℤ◌, ◌*ℤ◌, ◌≤ℤ◌, ◌<ℤ◌};
+ghost use Rattle.std.specs.Prelude.{List, [], true, false, All, IsTrue, Ok, Some};
 ghost use Rattle.std.specs.Int.{IsGcd};
 ghost use Rattle.std.specs.declared.option.Option.{Option};
 ghost use Rattle.std.specs.List.{Contains};

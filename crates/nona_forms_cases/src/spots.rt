@@ -66,8 +66,10 @@ fn of_two_programs(rt: HostRuntime) -> Result<(), Fail> {
 
 #[test]
 fn of_every_statement(rt: HostRuntime) -> Result<(), Fail> {
-    let text =
-        "var x; var y; array a[9]; array b[9]; for i in 0..9 { let t = a[0]; x = a[1]; x += a[2]; a[b[i]] += a[3]; if a[4] { print a[5]; } else { b[wrap x] = 1; } for j in 0..a[6] { for k in j..3 { b[k - i] = len(a); } } while a[7] { a[y] = !a[8]; } }";
+    let text = "var x; var y; array a[9]; array b[9]; \
+        for i in 0..9 { let t = a[0]; x = a[1]; x += a[2]; a[b[i]] += a[3]; \
+        if a[4] { print a[5]; } else { b[wrap x] = 1; } \
+        for j in 0..a[6] { for k in j..3 { b[k - i] = len(a); } } while a[7] { a[y] = !a[8]; } }";
     compare(
         &rt,
         rt.alloc(),

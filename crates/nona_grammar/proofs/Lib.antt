@@ -9,3 +9,5 @@ pub mod Exact
 pub mod Sizes
 pub mod Nesting
 pub mod ProgramNumbers
+pub mod TokenPlaces
+pub mod ProgramPlaces

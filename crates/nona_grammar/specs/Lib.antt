@@ -3,3 +3,4 @@ pub mod Grammar
 pub mod Stack
 pub mod Machine
 pub mod Faults
+pub mod Places

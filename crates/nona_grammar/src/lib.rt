@@ -7,16 +7,18 @@
 
 ghost use Rattle.std.specs.Prelude.{◌≡◌, ◌≤◌, ℕ, List, [], ◌∷◌, length, Ok, Err};
 ghost use Rattle.nona_lex.specs.declared.bounds.TheConstants.{BRACKETS};
-ghost use Rattle.nona_lex.specs.Bounds.{bounded};
+ghost use Rattle.nona_lex.specs.Bounds.{bounded, tokens_of};
 ghost use Rattle.nona_lex.specs.Laws.{AreI64Tokens};
 ghost use Rattle.nona_lex.specs.declared.tokens.Spot.{Spot};
 ghost use Rattle.nona_lex.specs.declared.tokens.Tokens.{Tokens};
 ghost use Rattle.nona_tree.specs.Numbers.{IsI64Program};
+ghost use Rattle.nona_tree.specs.Places.{AreRising, HasOwnPlaces};
 ghost use Rattle.nona_tree.specs.Smallness.{size_of, nesting_of};
 ghost use Rattle.nona_tree.specs.declared.trees.Program.{Program};
 ghost use Rattle.nona_grammar.specs.Faults.{FaultAt};
 ghost use Rattle.nona_grammar.specs.Grammar.{IsProgram};
 ghost use Rattle.nona_grammar.specs.Machine.{built};
+ghost use Rattle.nona_grammar.specs.Places.{token_places};
 ghost use Rattle.nona_grammar.specs.Stack.{Trees, whole_of};
 
 /// The machine reads exactly the programs of the grammar, so no list of tokens is two programs.
@@ -41,4 +43,10 @@ pub fn programs_are_small()
 /// The numbers of a program have 64 bits where those of its tokens do.
 pub fn programs_are_i64()
     ensures { (ss : List Spot) (p : Program) → IsProgram ss p → AreI64Tokens ss → IsI64Program p }
+{}
+
+/// The tokens of a text stand one behind another. Where tokens do, the words `for` of the program that they are do so too.
+pub fn programs_have_places()
+    ensures rising { (text : List ℕ) → AreRising (token_places (tokens_of text).spots) }
+    ensures places { (ss : List Spot) (p : Program) → IsProgram ss p → AreRising (token_places ss) → HasOwnPlaces p }
 {}

@@ -52,7 +52,8 @@ fn is_carried(ties: &[Tie], units: &[u32]) -> bool
 /// The rows of units that have only themselves.
 fn singles(alloc: Global, count: u32) -> Result<Vec<UnitSet>, AllocError>
     requires { count ≤ 64 }
-    ensures { IfOk result (λ rows. (length rows.items ≡ count) × ((i j : ℕ) → IsUnit count i → IsUnit count j → has_at rows.items i j ≡ (i == j))) }
+    ensures { IfOk result (λ rows. (length rows.items ≡ count)
+        × ((i j : ℕ) → IsUnit count i → IsUnit count j → has_at rows.items i j ≡ (i == j))) }
 {
     let mut rows = Vec::new(alloc);
     for unit in 0..count {

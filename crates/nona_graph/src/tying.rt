@@ -1,9 +1,11 @@
 //! The ties between the units of a loop.
 
-ghost use Rattle.std.specs.Prelude.{◌≡◌, ◌<◌, ◌≤◌, ◌^◌, ◌++◌, ◌&&◌, ◌||◌, ◌==◌, ℕ, List, [], nat_le, if◌then◌else◌, length, IfOk, OnOk};
+ghost use Rattle.std.specs.Prelude.{◌≡◌, ◌<◌, ◌≤◌, ◌^◌, ◌++◌, ◌&&◌, ◌||◌, ◌==◌, nat_le, if◌then◌else◌};
+ghost use Rattle.std.specs.Prelude.{ℕ, List, [], length, IfOk, OnOk};
 ghost use Rattle.std.specs.List.{list_any};
 ghost use Rattle.nona_forms.specs.Affine.{among};
-ghost use Rattle.nona_plans.specs.Units.{both_have, carried_arrays, carried_scalars, is_carried, is_tied, named_in, arrays_in, share_local, tie_of, ties_of, unit_has, unit_prints, uses, written_arrays};
+ghost use Rattle.nona_plans.specs.Units.{carried_arrays, carried_scalars, is_carried, is_tied, tie_of, ties_of};
+ghost use Rattle.nona_plans.specs.Units.{both_have, named_in, arrays_in, share_local, unit_has, unit_prints, uses, written_arrays};
 ghost use Rattle.nona_plans.specs.Walks.{IsUnit};
 ghost use Rattle.nona_graph.specs.Facts.{HaveSame, IsOf, joins, names_at, ties_from};
 

@@ -1,5 +1,6 @@
 ghost use Rattle.std.specs.Prelude.{◌≡◌, ◌≤◌, ◌⊎◌, ℕ, List, length, Ok, Err, IfOk, IfErr, MatchResult};
 ghost use Rattle.nona_tree.specs.Numbers.{IsI64Program};
+ghost use Rattle.nona_tree.specs.Places.{HasOwnPlaces};
 ghost use Rattle.nona_tree.specs.Smallness.{IsSmall};
 ghost use Rattle.nona_tree.specs.declared.trees.Program.{Program};
 ghost use Rattle.nona_grammar.specs.Stack.{whole_of};
@@ -13,7 +14,9 @@ use crate::blocks::statements;
 use crate::declarations::declarations;
 use crate::fault::{ParseFault, ReadFault};
 use crate::pieces::split_first;
-use nona_grammar::{fault_is_exact, grammar_is_read, programs_are_i64, programs_are_small};
+use nona_grammar::{
+    fault_is_exact, grammar_is_read, programs_are_i64, programs_are_small, programs_have_places,
+};
 use nona_lex::{Cut, Fault, Spot, read_tokens, tokens_are_few, tokens_are_i64};
 use nona_tree::Program;
 use std::alloc::Global;
@@ -22,8 +25,9 @@ use std::alloc::Global;
 pub const TEXT_BYTES: usize = 1_048_576;
 
 /// Reads the text of a program, of at most 2^20 bytes. The result is the one tree that the grammar gives the text; the
-/// names in it have the id 0, since they are not resolved, and its numbers have 64 bits. Takes time and memory in proportion to the text, and stack
-/// in proportion to the brackets that are open at once, of which there are 64 at most.
+/// names in it have the id 0, since they are not resolved, its numbers have 64 bits, and its loops stand at places of
+/// their own. Takes time and memory in proportion to the text, and stack in proportion to the brackets that are open at
+/// once, of which there are 64 at most.
 ///
 /// A text that is no program is refused for its first fault from the left. The only other refusal is `NoMemory`, after
 /// which the text may still be a program.
@@ -32,12 +36,14 @@ pub fn parse(alloc: Global, text: &[u8]) -> Result<Program, ParseFault>
     ensures reads { IfOk result (λ p. IsReading text.now p) }
     ensures small { IfOk result (λ p. IsSmall p) }
     ensures numbers { IfOk result (λ p. IsI64Program p) }
+    ensures places { IfOk result (λ p. HasOwnPlaces p) }
     ensures refused { IfErr result (λ fault. IsRefusal text.now fault) }
     ensures every { (p : Program) → IsReading text.now p → (result ≡ Ok p) ⊎ (result ≡ Err ParseFault.NoMemory) }
 {
     grammar_is_read();
     programs_are_small();
     programs_are_i64();
+    programs_have_places();
     tokens_are_few();
     tokens_are_i64();
     let end = text.len() as u32;

@@ -16,7 +16,7 @@ use Rattle.parcae.specs.declared.refusal.Refusal.TheVariants as refusal
 use Rattle.parcae.specs.declared.refusal.Source.{Source}
 use Rattle.parcae.specs.declared.refusal.Source.TheVariants as source
 use Rattle.parcae.specs.declared.status.Status.TheVariants as status
-use Rattle.parcae.specs.Words.{Task, Command, seq, replay}
+use Rattle.parcae.specs.Words.{Task, Command, seq, check, replay}
 use Rattle.fate_io.specs.Reading.{Held, Looked}
 use Rattle.fate_io.specs.Outside.{outside_of}
 use Rattle.parcae.specs.Codes.{code_of}
@@ -224,6 +224,7 @@ full_by (Some (seq task)) looked sent told added printed later e sends (by_run (
     let w = seq_whole tree (meaning_of tree numbers task.turns) task.memory _ told printed later d refl in
     let low : code_of told.status ≤ 2 = subst (λ (t : Told). code_of t.status ≤ 2) (sym w.0) (ended_code (meaning_of tree numbers task.turns).end) in
     absurd (omega (arith, e, low))
+full_by (Some (check file)) looked sent told added printed later e sends (by_run runs) = absurd runs
 full_by (Some (replay task script log)) looked sent told added printed later e sends (by_run (tree, numbers, commands, g, h, k, d)) =
     full_drive _ _ _ _ _ _ sent told printed later e sends (drive_whole _ _ _ _ _ _ _ told printed later d refl)
 
@@ -307,6 +308,7 @@ tells_meaning None looked sent told answers = no_meaning looked sent told (usage
 tells_meaning (Some (seq task)) looked sent told answers = λ tells le.
     let a = answered (Some (seq task)) looked sent told (λ f. omega (arith, le, f)) (λ f. omega (arith, le, f)) answers in
     seq_by task looked sent told a.added a.printed a.later tells le a.sends a.by
+tells_meaning (Some (check file)) looked sent told answers = tt
 tells_meaning (Some (replay task script log)) looked sent told answers = λ tells le.
     let a = answered (Some (replay task script log)) looked sent told (λ f. omega (arith, le, f)) (λ f. omega (arith, le, f)) answers in
     replay_by task script log looked sent told a.added a.printed a.later tells le a.sends a.by

@@ -15,7 +15,7 @@ use Rattle.parcae.specs.declared.refusal.Refusal.{Refusal}
 use Rattle.parcae.specs.declared.refusal.Source.{Source}
 use Rattle.parcae.specs.declared.refusal.Source.TheVariants as source
 use Rattle.parcae.specs.declared.status.Status.TheVariants.{NoMemory}
-use Rattle.parcae.specs.Words.{Task, Command, seq, replay}
+use Rattle.parcae.specs.Words.{Task, Command, seq, check, replay}
 use Rattle.parcae.specs.Told.{Told}
 use Rattle.parcae.specs.Accepted.{IsAccepted}
 use Rattle.fate_io.specs.Reading.{Held, Looked}
@@ -145,6 +145,7 @@ completes one (Some (seq task)) looked sent told (added, grown, e) = λ tree num
     let w = ends_whole _ sent told calm.puts calm.memory e in
     let ran = seq_due one task looked tree numbers added _ none program inputs (whole_apart told w.0 w.1 empty_log) w.2 in
     (w.0, w.1, ran.1, w.3)
+completes one (Some (check file)) looked sent told answers = tt
 completes one (Some (replay task script log)) looked sent told (added, grown, e) = λ tree numbers commands program inputs scripts calm.
     let none : added ≡ [] = none_added looked.failed_before added (sym calm.reads ∙ grown) in
     let w = ends_whole _ sent told calm.puts calm.memory e in

@@ -16,7 +16,7 @@ use Rattle.morta_text.specs.Texts.{number_line, number_lines}
 use Rattle.morta_exec.specs.Places.{most}
 use Rattle.parcae.specs.declared.refusal.Refusal.TheVariants as refusal
 use Rattle.parcae.specs.declared.status.Status.TheVariants as status
-use Rattle.parcae.specs.Words.{seq, replay}
+use Rattle.parcae.specs.Words.{seq, check, replay}
 use Rattle.parcae.specs.Texts.{refusal_line}
 use Rattle.parcae.specs.Told.{Told, bare, finished, IsBare, Keeps}
 use Rattle.parcae.specs.Ends.{Way, Whole, Early, Unbegun, Breaks, within, behind, whole, write_failed, no_memory, unbegun}
@@ -152,6 +152,7 @@ tells_front one (Some (seq task)) looked sent told (added, grown, no_memory e b)
     (breaks_due _ _ (λ way apart d. (seq_due one task looked tree numbers added way none program inputs apart d).1) sent told b)
 tells_front one (Some (seq task)) looked sent told (added, grown, unbegun e d h b) = λ tree numbers written program inputs cut.
     cut_before (meaning_of tree numbers task.turns) sent told cut.front written cut.before cut.after h b
+tells_front one (Some (check file)) looked sent told answers = tt
 tells_front one (Some (replay task script log)) looked sent told (added, grown, whole p l d h) = λ tree numbers commands written program inputs scripts cut.
     absurd (whole_code (Some (replay task script log)) looked added told p l (whole_by (Some (replay task script log)) looked added told p l d) cut.broken)
 tells_front one (Some (replay task script log)) looked sent told (added, grown, write_failed e b rose) = λ tree numbers commands written program inputs scripts cut.

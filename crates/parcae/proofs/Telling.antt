@@ -20,7 +20,7 @@ use Rattle.parcae.specs.declared.refusal.Refusal.TheVariants as refusal
 use Rattle.parcae.specs.declared.refusal.Source.{Source}
 use Rattle.parcae.specs.declared.refusal.Source.TheVariants as source
 use Rattle.parcae.specs.declared.status.Status.TheVariants as status
-use Rattle.parcae.specs.Words.{Command, seq, replay}
+use Rattle.parcae.specs.Words.{Command, seq, check, replay}
 use Rattle.fate_io.specs.Reading.{Held, Looked}
 use Rattle.fate_io.specs.Outside.{Outside, outside_of}
 use Rattle.parcae.specs.Codes.{code_of}
@@ -60,6 +60,7 @@ Runs looked report printed later None = ⊥
 Runs looked report printed later (Some (seq task)) =
     (tree : Program) × (numbers : List ℤ) × GivesProgram (outside_of looked) task.file tree × GivesInput (outside_of looked) task.input numbers
     × DueOfSeq tree (meaning_of tree numbers task.turns) task.memory (Whole report printed later)
+Runs looked report printed later (Some (check file)) = ⊥
 Runs looked report printed later (Some (replay task script log)) =
     (tree : Program) × (numbers : List ℤ) × (commands : List Order) × GivesProgram (outside_of looked) task.file tree × GivesInput (outside_of looked) task.input numbers
     × GivesScript (outside_of looked) script commands
@@ -90,6 +91,7 @@ whole_by (Some (seq task)) looked added report printed later (follows tree g (st
     let b = bad_input task.input (outside_of looked) added r bad in by_file source.Input b.0 r b.1 b.2 w
 whole_by (Some (seq task)) looked added report printed later (follows tree g (starves e w)) = absurd (whole_apart report printed later w)
 whole_by (Some (seq task)) looked added report printed later (follows tree g (follows numbers h (e, d))) = by_run (tree, numbers, g, h, d)
+whole_by (Some (check file)) looked added report printed later (e, w) = absurd (whole_apart report printed later w)
 whole_by (Some (replay task script log)) looked added report printed later (stops r bad w) = by_file source.Program task.file r refl bad w
 whole_by (Some (replay task script log)) looked added report printed later (starves e w) = absurd (whole_apart report printed later w)
 whole_by (Some (replay task script log)) looked added report printed later (follows tree g (stops r bad w)) =
@@ -120,6 +122,7 @@ runs_code None looked report printed later runs = absurd runs
 runs_code (Some (seq task)) looked report printed later (tree, numbers, g, h, d) =
     let w = seq_whole tree (meaning_of tree numbers task.turns) task.memory _ report printed later d refl in
     inl (subst (λ (t : Told). code_of t.status ≤ 2) (sym w.0) (ended_code (meaning_of tree numbers task.turns).end))
+runs_code (Some (check file)) looked report printed later runs = absurd runs
 runs_code (Some (replay task script log)) looked report printed later (tree, numbers, commands, g, h, k, d) =
     drive_code _ _ _ _ _ _ report printed later (drive_whole _ _ _ _ _ _ _ report printed later d refl)
 

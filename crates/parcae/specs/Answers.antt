@@ -12,7 +12,7 @@ use Rattle.morta_script.specs.Lines.{commands_of}
 use Rattle.parcae.specs.declared.refusal.Source.{Source}
 use Rattle.parcae.specs.declared.refusal.Source.TheVariants as source
 use Rattle.parcae.specs.declared.status.Status.TheVariants.{NoMemory}
-use Rattle.parcae.specs.Words.{Command, seq, replay}
+use Rattle.parcae.specs.Words.{Command, seq, check, replay}
 use Rattle.parcae.specs.Told.{Told}
 use Rattle.parcae.specs.Accepted.{IsAccepted}
 use Rattle.parcae.specs.Ends.{Way, Whole, Ends}
@@ -62,6 +62,7 @@ IsComplete None looked sent told = Unit {0}
 IsComplete (Some (seq task)) looked sent told =
     (tree : Program) (numbers : List ℤ) → HoldsProgram looked task.file tree → HoldsInput looked task.input numbers
     → IsCalm looked sent told → EndsWhole (DueOfSeq tree (meaning_of tree numbers task.turns) task.memory) sent told
+IsComplete (Some (check file)) looked sent told = Unit {0}
 IsComplete (Some (replay task script log)) looked sent told =
     (tree : Program) (numbers : List ℤ) (commands : List Order) → HoldsProgram looked task.file tree → HoldsInput looked task.input numbers
     → HoldsScript looked script commands → IsCalm looked sent told → EndsWhole (DueOfReplay tree numbers commands task.turns task.memory log) sent told

@@ -17,7 +17,7 @@ use Rattle.morta_exec.specs.Places.{most, IsBehind, StartsNext}
 use Rattle.parcae.specs.declared.refusal.Refusal.TheVariants.{Usage}
 use Rattle.parcae.specs.declared.refusal.Source.TheVariants as source
 use Rattle.parcae.specs.declared.status.Status.TheVariants as status
-use Rattle.parcae.specs.Words.{Command, seq, replay}
+use Rattle.parcae.specs.Words.{Command, seq, check, replay}
 use Rattle.fate_io.specs.Outside.{Outside}
 use Rattle.parcae.specs.Texts.{full_line}
 use Rattle.parcae.specs.Told.{logged, finished}
@@ -78,6 +78,7 @@ DueOfCommand outside (Some (seq task)) added way =
     DueOf (IsBad source.Program outside task.file) (GivesProgram outside task.file) (λ tree.
     DueOf (NoInput outside task.input) (GivesInput outside task.input) (λ numbers.
     AllRead (DueOfSeq tree (meaning_of tree numbers task.turns) task.memory))) added way
+DueOfCommand outside (Some (check file)) added way = (added ≡ []) × (way ≡ Unbegun empty_log)
 DueOfCommand outside (Some (replay task script log)) added way =
     DueOf (IsBad source.Program outside task.file) (GivesProgram outside task.file) (λ tree.
     DueOf (NoInput outside task.input) (GivesInput outside task.input) (λ numbers.

@@ -18,7 +18,7 @@ use Rattle.parcae.specs.declared.refusal.Source.{Source}
 use Rattle.parcae.specs.declared.refusal.Source.TheVariants as source
 use Rattle.parcae.specs.declared.refusal.Refusal.{Refusal}
 use Rattle.parcae.specs.declared.refusal.Refusal.TheVariants as refusal
-use Rattle.parcae.specs.Words.{Task, Command, seq, replay}
+use Rattle.parcae.specs.Words.{Task, Command, seq, check, replay}
 use Rattle.parcae.specs.Codes.{code_of}
 use Rattle.fate_io.specs.Reading.{Looked}
 use Rattle.parcae.specs.Texts.{refusal_line, refusal_status, full_line}
@@ -41,6 +41,9 @@ named None source = None
 named (Some (seq task)) source.Program = Some task.file
 named (Some (seq task)) source.Input = task.input
 named (Some (seq task)) source.Script = None
+named (Some (check file)) source.Program = Some file
+named (Some (check file)) source.Input = None
+named (Some (check file)) source.Script = None
 named (Some (replay task script log)) source.Program = Some task.file
 named (Some (replay task script log)) source.Input = task.input
 named (Some (replay task script log)) source.Script = Some script
@@ -151,6 +154,7 @@ pub record HasReplayed (task : Task) (script : List ℕ) (log : Bool) (looked : 
 abbrev pub TellsMeaning : Option Command → Looked → Sent → Told → Type 0
 TellsMeaning None looked sent told = 2 < code_of told.status
 TellsMeaning (Some (seq task)) looked sent told = TellsFiles looked → code_of told.status ≤ 2 → HasRunInSequence task looked sent told
+TellsMeaning (Some (check file)) looked sent told = Unit {0}
 TellsMeaning (Some (replay task script log)) looked sent told =
     TellsFiles looked → code_of told.status ≤ 2 → HasReplayed task script log looked sent told
 
@@ -173,6 +177,7 @@ TellsFront None looked sent told = IsBare told
 TellsFront (Some (seq task)) looked sent told =
     (tree : Program) (numbers : List ℤ) (written : List ℕ) → HoldsProgram looked task.file tree → HoldsInput looked task.input numbers
     → IsCut looked sent told written → IsCutBy (meaning_of tree numbers task.turns) written told
+TellsFront (Some (check file)) looked sent told = Unit {0}
 TellsFront (Some (replay task script log)) looked sent told =
     (tree : Program) (numbers : List ℤ) (commands : List Order) (written : List ℕ) → HoldsProgram looked task.file tree
     → HoldsInput looked task.input numbers → HoldsScript looked script commands → IsCut looked sent told written

@@ -13,9 +13,10 @@ pub record Task : Type 0 where
   pub turns : ℕ
   pub memory : Bool
 
--- a command: a run in one thread, or the replay of a script, whose log may be written
+-- a command: a run in one thread, what is seen of a program's loops, or the replay of a script, whose log may be written
 pub data Command : Type 0 where
   seq : (task : Task) → Command
+  check : (file : List ℕ) → Command
   replay : (task : Task) → (script : List ℕ) → (log : Bool) → Command
 
 -- whether a word may be a file's: it doesn't begin with a minus
@@ -82,8 +83,14 @@ replay_words words =
     with_flag memory_flag d (λ memory e. with_flag log_flag e (λ log f.
     at_end f (replay (record { file = file; input = input; turns = turns; memory = memory }) script log)))))))
 
+-- `FILE`
+abbrev pub check_words : List (List ℕ) → Option Command
+check_words words = with_name words (λ file a. at_end a (check file))
+
 -- the command that words are, or none
 abbrev pub meant : List (List ℕ) → Option Command
 meant [] = None
 meant (w ∷ ws) =
-    if bytes_eq w (codes "seq") then seq_words ws else if bytes_eq w (codes "replay") then replay_words ws else None
+    if bytes_eq w (codes "seq") then seq_words ws
+    else if bytes_eq w (codes "check") then check_words ws
+    else if bytes_eq w (codes "replay") then replay_words ws else None

@@ -18,16 +18,16 @@ use nona_parse::reads_one_tree;
 use std::alloc::Global;
 
 /// The command `seq`: runs a program in one thread.
-fn seq<S: Shelf, K: Sink>(alloc: Global, run: Run<'_>, shelf: &mut S, out: &mut K) -> Report
-    requires some_turns { 1 ≤ run.turns }
-    requires few_turns { run.turns ≤ TURN_LIMIT }
+fn seq<S: Shelf, K: Sink>(alloc: Global, run: &Run, shelf: &mut S, out: &mut K) -> Report
+    requires some_turns { 1 ≤ run.now.turns }
+    requires few_turns { run.now.turns ≤ TURN_LIMIT }
     ensures same { S.held shelf.new ≡ S.held shelf.old }
-    ensures answers { Answers (Some (seq (task_of run.entry)))
+    ensures answers { Answers (Some (seq (task_of run.now)))
         (looked_since S.held S.failed shelf.old shelf.new)
         (sent_since K.written K.faults out.old out.new) (told_of result) }
 {
-    match program_in(alloc, run.file, shelf) {
-        Ok(program) => match input_in(alloc, run.input, shelf) {
+    match program_in(alloc, run.file.as_str(), shelf) {
+        Ok(program) => match input_in(alloc, run.input.as_deref(), shelf) {
             Ok(input) => run_in_sequence(alloc, &program, input, run.turns, run.memory, out),
             Err(stop) => give_up(alloc, stop, out),
         },
@@ -38,21 +38,21 @@ fn seq<S: Shelf, K: Sink>(alloc: Global, run: Run<'_>, shelf: &mut S, out: &mut 
 /// The command `replay`: replays a script over a program.
 fn replay<S: Shelf, K: Sink>(
     alloc: Global,
-    run: Run<'_>,
+    run: &Run,
     script: &str,
     log: bool,
     shelf: &mut S,
     out: &mut K,
 ) -> Report
-    requires some_turns { 1 ≤ run.turns }
-    requires few_turns { run.turns ≤ TURN_LIMIT }
+    requires some_turns { 1 ≤ run.now.turns }
+    requires few_turns { run.now.turns ≤ TURN_LIMIT }
     ensures same { S.held shelf.new ≡ S.held shelf.old }
-    ensures answers { Answers (Some (replay (task_of run.entry) script.now log))
+    ensures answers { Answers (Some (replay (task_of run.now) script.now log))
         (looked_since S.held S.failed shelf.old shelf.new)
         (sent_since K.written K.faults out.old out.new) (told_of result) }
 {
-    match program_in(alloc, run.file, shelf) {
-        Ok(program) => match input_in(alloc, run.input, shelf) {
+    match program_in(alloc, run.file.as_str(), shelf) {
+        Ok(program) => match input_in(alloc, run.input.as_deref(), shelf) {
             Ok(input) => match script_in(alloc, script, shelf) {
                 Ok(script) => {
                     let asked = Asked {
@@ -76,10 +76,14 @@ fn still<S: Shelf, K: Sink>(alloc: Global, words: &[String], shelf: &mut S, out:
         (looked_since S.held S.failed shelf.old shelf.new)
         (sent_since K.written K.faults out.old out.new) (told_of result) }
 {
-    match command_of(words) {
-        Some(Command::Seq(run)) => seq(alloc, run, shelf, out),
-        Some(Command::Replay { run, script, log }) => replay(alloc, run, script, log, shelf, out),
-        None => give_up(alloc, Stop::Refused(Refusal::Usage), out),
+    match command_of(alloc, words) {
+        Ok(Some(Command::Seq(run))) => seq(alloc, &run, shelf, out),
+        Ok(Some(Command::Check { .. })) => give_up(alloc, Stop::NoMemory, out),
+        Ok(Some(Command::Replay { run, script, log })) => {
+            replay(alloc, &run, script.as_str(), log, shelf, out)
+        }
+        Ok(None) => give_up(alloc, Stop::Refused(Refusal::Usage), out),
+        Err(_) => give_up(alloc, Stop::NoMemory, out),
     }
 }
 

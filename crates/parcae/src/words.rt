@@ -1,11 +1,12 @@
-ghost use Rattle.std.specs.Prelude.{◌≡◌, ◌≤◌, ◌∷◌, [], ℕ, Bool, List, map, string_bytes, MatchOption, IfSome, None, Some};
+ghost use Rattle.std.specs.Prelude.{◌≡◌, ◌≤◌, ◌∷◌, [], ℕ, Bool, List, map, string_bytes, MatchOption, IfSome, IfOk, None, Some, option_map};
 ghost use Rattle.std.specs.Option.{option_copied};
 ghost use Rattle.std.specs.declared.option.Option.{Option};
-ghost use Rattle.parcae.specs.Words.{Command as Meaning, is_name, with_name, with_input, with_turns, with_flag, with_script, seq_words, replay_words, meant};
+ghost use Rattle.parcae.specs.Words.{Command as Meaning, is_name, with_name, with_input, with_turns, with_flag, with_script, seq_words, check_words, replay_words, meant};
 ghost use Rattle.parcae.specs.Meant.{IsMeant, HasTurns};
 ghost use Rattle.parcae.specs.declared.words.TheConstants.{TURN_LIMIT};
 
 use nona_text::number_within;
+use std::alloc::{AllocError, Global};
 
 /// How many turns a loop may take whenever it is entered, where the words don't say.
 const DEFAULT_TURNS: u64 = 1_000_000_000;
@@ -15,25 +16,23 @@ const TURN_LIMIT: u64 = 1_000_000_000_000;
 
 /// What a run takes: the program's file, the input's where there is one, how many turns a loop may take whenever it is
 /// entered, from 1 to 10^12, and whether the memory is written.
-#[derive(Clone, Copy)]
-pub struct Run<'a> {
-    pub file: &'a str,
-    pub input: Option<&'a str>,
+#[derive(Drop)]
+pub struct Run {
+    pub file: String,
+    pub input: Option<String>,
     pub turns: u64,
     pub memory: bool,
 }
 
 /// A command.
-#[derive(Clone, Copy)]
-pub enum Command<'a> {
+#[derive(Drop)]
+pub enum Command {
     /// A run in one thread.
-    Seq(Run<'a>),
+    Seq(Run),
+    /// What is seen of the loops of the program in a file.
+    Check { file: String },
     /// The replay of the script in a file, whose log may be written.
-    Replay {
-        run: Run<'a>,
-        script: &'a str,
-        log: bool,
-    },
+    Replay { run: Run, script: String, log: bool },
 }
 
 /// Whether a word may be a file's: it doesn't begin with a minus.
@@ -148,64 +147,106 @@ fn take_script(words: &[String]) -> Option<(&str, &[String])>
     }
 }
 
-/// The words behind `seq`: `FILE [INPUT] [--turns N] [--memory]`.
-fn seq_words(words: &[String]) -> Option<Command<'_>>
-    ensures meant { IsMeant result (seq_words (map string_bytes words.now)) }
-    ensures turns { IfSome result HasTurns }
+/// A copy of a text, where there is one.
+fn owned(alloc: Global, text: Option<&str>) -> Result<Option<String>, AllocError>
+    ensures { IfOk result (λ copy. option_map string_bytes copy ≡ option_copied text.entry) }
 {
-    let (file, rest) = take_name(words)?;
+    match text {
+        Some(text) => match String::from_str(alloc, text) {
+            Ok(copy) => Ok(Some(copy)),
+            Err(fault) => Err(fault),
+        },
+        None => Ok(None),
+    }
+}
+
+/// The words behind `seq`: `FILE [INPUT] [--turns N] [--memory]`.
+fn seq_words(alloc: Global, words: &[String]) -> Result<Option<Command>, AllocError>
+    ensures meant { IfOk result (λ c. IsMeant c (seq_words (map string_bytes words.now))) }
+    ensures turns { IfOk result (λ c. IfSome c HasTurns) }
+{
+    let Some((file, rest)) = take_name(words) else {
+        return Ok(None);
+    };
     let (input, rest) = take_input(rest);
-    let (turns, rest) = take_turns(rest)?;
+    let Some((turns, rest)) = take_turns(rest) else {
+        return Ok(None);
+    };
     let (memory, rest) = take_flag("--memory", rest);
     if !rest.is_empty() {
-        return None;
+        return Ok(None);
     }
-    Some(Command::Seq(Run {
-        file,
-        input,
+    Ok(Some(Command::Seq(Run {
+        file: String::from_str(alloc, file)?,
+        input: owned(alloc, input)?,
         turns,
         memory,
+    })))
+}
+
+/// The words behind `check`: `FILE`.
+fn check_words(alloc: Global, words: &[String]) -> Result<Option<Command>, AllocError>
+    ensures meant { IfOk result (λ c. IsMeant c (check_words (map string_bytes words.now))) }
+    ensures turns { IfOk result (λ c. IfSome c HasTurns) }
+{
+    let Some((file, rest)) = take_name(words) else {
+        return Ok(None);
+    };
+    if !rest.is_empty() {
+        return Ok(None);
+    }
+    Ok(Some(Command::Check {
+        file: String::from_str(alloc, file)?,
     }))
 }
 
 /// The words behind `replay`: `FILE [INPUT] --script S [--turns N] [--memory] [--log]`.
-fn replay_words(words: &[String]) -> Option<Command<'_>>
-    ensures meant { IsMeant result (replay_words (map string_bytes words.now)) }
-    ensures turns { IfSome result HasTurns }
+fn replay_words(alloc: Global, words: &[String]) -> Result<Option<Command>, AllocError>
+    ensures meant { IfOk result (λ c. IsMeant c (replay_words (map string_bytes words.now))) }
+    ensures turns { IfOk result (λ c. IfSome c HasTurns) }
 {
-    let (file, rest) = take_name(words)?;
+    let Some((file, rest)) = take_name(words) else {
+        return Ok(None);
+    };
     let (input, rest) = take_input(rest);
-    let (script, rest) = take_script(rest)?;
-    let (turns, rest) = take_turns(rest)?;
+    let Some((script, rest)) = take_script(rest) else {
+        return Ok(None);
+    };
+    let Some((turns, rest)) = take_turns(rest) else {
+        return Ok(None);
+    };
     let (memory, rest) = take_flag("--memory", rest);
     let (log, rest) = take_flag("--log", rest);
     if !rest.is_empty() {
-        return None;
+        return Ok(None);
     }
     let run = Run {
-        file,
-        input,
+        file: String::from_str(alloc, file)?,
+        input: owned(alloc, input)?,
         turns,
         memory,
     };
-    Some(Command::Replay { run, script, log })
+    let script = String::from_str(alloc, script)?;
+    Ok(Some(Command::Replay { run, script, log }))
 }
 
-/// The command that words are, where they are one.
-pub fn command_of(words: &[String]) -> Option<Command<'_>>
-    ensures meant { IsMeant result (meant (map string_bytes words.now)) }
-    ensures turns { IfSome result HasTurns }
+/// The command that words are, where they are one. The one error is that memory ran out.
+pub fn command_of(alloc: Global, words: &[String]) -> Result<Option<Command>, AllocError>
+    ensures meant { IfOk result (λ c. IsMeant c (meant (map string_bytes words.now))) }
+    ensures turns { IfOk result (λ c. IfSome c HasTurns) }
 {
     match split_first(words) {
         Some((word, rest)) => {
             if word == "seq" {
-                seq_words(rest)
+                seq_words(alloc, rest)
+            } else if word == "check" {
+                check_words(alloc, rest)
             } else if word == "replay" {
-                replay_words(rest)
+                replay_words(alloc, rest)
             } else {
-                None
+                Ok(None)
             }
         }
-        None => None,
+        None => Ok(None),
     }
 }

@@ -22,3 +22,10 @@ returns-clause-numbers c =
     let answer = answered text c.in-Ok.tokens c.as_slice.result.now c.read_program-read.result c.answer.result c.in-Ok.ensures.exact c.as_slice.ensures c.read_program-read.ensures c.answer.ensures in
     MatchResult-weaker c.answer.result answer
     (λ p read. c.programs_are_i64.ensures (tokens_of text).spots p read.1 (c.tokens_are_i64.ensures text)) (λ f refusal. tt)
+
+pub returns-clause-places : goal.returns-clause-places
+returns-clause-places c =
+    let text = c.args.text.now in
+    let answer = answered text c.in-Ok.tokens c.as_slice.result.now c.read_program-read.result c.answer.result c.in-Ok.ensures.exact c.as_slice.ensures c.read_program-read.ensures c.answer.ensures in
+    MatchResult-weaker c.answer.result answer
+    (λ p read. c.programs_have_places.ensures.places (tokens_of text).spots p read.1 (c.programs_have_places.ensures.rising text)) (λ f refusal. tt)

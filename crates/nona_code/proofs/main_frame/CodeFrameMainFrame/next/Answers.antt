@@ -5,7 +5,7 @@ use Rattle.nona_tree.specs.Run.{done}
 use Rattle.nona_code.specs.declared.main_frame.CodeFrame.{CodeFrame}
 use Rattle.nona_code.specs.Machine.{most_steps}
 use Rattle.nona_code.specs.MainLeft.{state_in}
-use Rattle.nona_code.specs.MainPrints.{halt_prints}
+use Rattle.nona_code.proofs.MainPrints.{halt_prints}
 use Rattle.nona_code.proofs.Allowed.{all_deeds}
 use Rattle.nona_code.proofs.MainRuns.{frame_way, frame_over, frame_at_region}
 use Rattle.nona_code.proofs.main_frame.CodeFrameMainFrame.next.Goals as goal

@@ -1,5 +1,4 @@
--- What is left to come of a frame for main code only adds to what is printed. It is the law `only_prints` of such a frame, and
--- a law of a trait finds its proof only here.
+-- What main code has to come only adds to what is printed.
 use Rattle.std.proofs.Common.{◌≡◌, ℕ, zero, suc, ◌+◌, ◌-◌, Bool, true, false, if◌then◌else◌, ℤ, pos, List, [], ◌∷◌, length, Option, Some, None, subst}
 use Rattle.std.specs.Prelude.{Result, Ok, Err, nat_lt, nat_le, slice_get, slice_set, slice_index_or, unsigned_abs}
 use Rattle.nona_num.specs.Folds.{join_of}
@@ -11,12 +10,10 @@ use Rattle.nona_tree.specs.Value.{place_of, apply}
 use Rattle.nona_tree.specs.Run.{run, trapped, starved}
 use Rattle.nona_tree.proofs.Keeps.{MorePrinted, printed_kept, run_kept}
 use Rattle.nona_code.specs.Course.{Course}
-use Rattle.nona_code.specs.MainStops.{OnlyPrints}
 use Rattle.nona_code.specs.declared.instr.Instr.{Instr}
 use Rattle.nona_code.specs.declared.instr.Instr.TheVariants as instr
 use Rattle.nona_code.specs.Machine.{State, Halt, ended, region, stuck, Next, goes, halts, act, open_at, step_by, Trace, trace, onward, most_steps, take_one, take_two, where_so, given, given_by, pushed, stored, leave, first_hidden}
 use Rattle.nona_code.specs.Main.{Left, over, stops, leaves}
-use Rattle.nona_code.specs.MainLeft.{IsLeft}
 
 -- what holds where an instruction lacks something holds of what it does where it holds of each way to do it
 module _ (Q : Next → Type 0) (lack : Q (halts stuck)) where
@@ -106,15 +103,11 @@ halt_prints code n (suc k) s h is =
     step_prints (slice_get code s.pc) (open_at code s.pc) n s (trace code n k) h (λ t. halt_prints code n k t h) is
 
 -- what main code has to come only adds to what is printed
-left_code_prints : (code : List Instr) (n : ℕ) (s : State) (end : Outcome) (course : Course) → Left code n s end course → MorePrinted s.store course.ran.store
-left_code_prints code n _ _ _ (over s r is) = halt_prints code n (most_steps code n) s (ended r) is
-left_code_prints code n _ _ _ (stops s t number low high l rest is scoped low_is high_is on) =
+pub left_prints : (code : List Instr) (n : ℕ) (s : State) (end : Outcome) (course : Course) → Left code n s end course → MorePrinted s.store course.ran.store
+left_prints code n _ _ _ (over s r is) = halt_prints code n (most_steps code n) s (ended r) is
+left_prints code n _ _ _ (stops s t number low high l rest is scoped low_is high_is on) =
     let q = (run (For l) n t.store).store in
     printed_kept.order.chain s.store t.store rest.ran.store
     (halt_prints code n (most_steps code n) s (region number low high t) is)
-    (printed_kept.order.chain t.store q rest.ran.store (run_kept MorePrinted printed_kept (For l) n t.store) (left_code_prints code n _ _ rest on))
-left_code_prints code n _ _ _ (leaves s end other few) = same s.store
-
--- so does what is left to come of a frame
-pub left_prints : OnlyPrints IsLeft
-left_prints = λ frame n r course is. left_code_prints frame.code.now.instrs n _ r.end course is.left
+    (printed_kept.order.chain t.store q rest.ran.store (run_kept MorePrinted printed_kept (For l) n t.store) (left_prints code n _ _ rest on))
+left_prints code n _ _ _ (leaves s end other few) = same s.store
