@@ -42,6 +42,6 @@ starved_answer None outside sent told h =
 starved_answer (Some (seq task)) outside sent told h =
     rw h.0 (ends_starved (DueOfCommand outside (Some (seq task)) []) sent (starves refl refl) h.1)
 starved_answer (Some (check file)) outside sent told h =
-    rw h.0 (ends_starved (DueOfCommand outside (Some (check file)) []) sent (refl, refl) h.1)
+    rw h.0 (ends_starved (DueOfCommand outside (Some (check file)) []) sent (starves refl refl) h.1)
 starved_answer (Some (replay task script log)) outside sent told h =
     rw h.0 (ends_starved (DueOfCommand outside (Some (replay task script log)) []) sent (starves refl refl) h.1)

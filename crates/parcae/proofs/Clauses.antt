@@ -26,8 +26,8 @@ use Rattle.parcae.specs.Ends.{Whole, whole, write_failed, no_memory, unbegun}
 use Rattle.parcae.specs.Files.{limit_of, IsLong, failed, long, text, GivesProgram, GivesInput, GivesScript}
 use Rattle.parcae.specs.Due.{where_asked, replay_image, entries_in}
 use Rattle.parcae.specs.Answers.{Answers, HoldsProgram, HoldsInput, HoldsScript}
-use Rattle.parcae.specs.Statuses.{OfEachCall, TellsFiles, IsBrokenOff, TellsUsage, HasFault, TellsFault, HasFailedRead, TellsFailedRead, TellsFailedWrite, HasLongFile, TellsLongFile, HasFullLog, TellsFullLog, IsWholeReplay, run_text, HasRunInSequence, HasReplayed, TellsMeaning}
-use Rattle.parcae.proofs.Telling.{seq_whole, DriveWhole, is_ran, is_full, drive_whole, ended_code, WholeBy, by_words, by_file, by_run, whole_by, runs_code, answered, says_of, refused_code, fault_code, text_code, bad_code, one_source, held_content}
+use Rattle.parcae.specs.Statuses.{OfEachCall, TellsFiles, IsBrokenOff, TellsUsage, HasFault, TellsFault, HasFailedRead, TellsFailedRead, TellsFailedWrite, HasLongFile, TellsLongFile, HasFullLog, TellsFullLog, IsWholeReplay, run_text, HasRunInSequence, HasReplayed, HasReported, TellsMeaning}
+use Rattle.parcae.proofs.Telling.{seq_whole, check_whole, DriveWhole, is_ran, is_full, drive_whole, ended_code, WholeBy, by_words, by_file, by_run, whole_by, runs_code, answered, says_of, refused_code, fault_code, text_code, bad_code, one_source, held_content}
 
 -- a run has none of the statuses between
 run_apart : (code n : ℕ) → (code ≤ 2) ⊎ (code ≡ 18) → 2 < n → n < 18 → code ≢ n
@@ -224,7 +224,10 @@ full_by (Some (seq task)) looked sent told added printed later e sends (by_run (
     let w = seq_whole tree (meaning_of tree numbers task.turns) task.memory _ told printed later d refl in
     let low : code_of told.status ≤ 2 = subst (λ (t : Told). code_of t.status ≤ 2) (sym w.0) (ended_code (meaning_of tree numbers task.turns).end) in
     absurd (omega (arith, e, low))
-full_by (Some (check file)) looked sent told added printed later e sends (by_run runs) = absurd runs
+full_by (Some (check file)) looked sent told added printed later e sends (by_run (tree, g, d)) =
+    let w = check_whole tree _ told printed later d refl in
+    let is : code_of told.status ≡ 0 = ap (λ (t : Told). code_of t.status) w.0 in
+    absurd (omega (arith, e, is))
 full_by (Some (replay task script log)) looked sent told added printed later e sends (by_run (tree, numbers, commands, g, h, k, d)) =
     full_drive _ _ _ _ _ _ sent told printed later e sends (drive_whole _ _ _ _ _ _ _ told printed later d refl)
 
@@ -257,6 +260,21 @@ seq_by task looked sent told added printed later tells le sends (by_run (tree, n
       numbers = numbers;
       program = holds_program looked task.file tree tells g;
       input = holds_input looked task.input numbers tells h;
+      report = w.0;
+      text = subst (λ (t : List ℕ). Appends sent.before sent.after t) (rw (w.1, w.2) refl) sends;
+    }
+
+-- 0 of the report on loops
+check_by : (file : List ℕ) (looked : Looked) (sent : Sent) (told : Told) (added : List (List ℕ)) (printed later : List ℕ)
+    → TellsFiles looked → code_of told.status ≤ 2 → Appends sent.before sent.after (printed ++ later)
+    → WholeBy (Some (check file)) looked added told printed later → HasReported file looked sent told
+check_by file looked sent told added printed later tells le sends (by_words none w) = absurd (omega (arith, le, words_code told printed later w))
+check_by file looked sent told added printed later tells le sends (by_file s f r names bad w) =
+    absurd (omega (arith, le, refused_code r told printed later w, (bad_code s (outside_of looked) f added r bad).0))
+check_by file looked sent told added printed later tells le sends (by_run (tree, g, d)) =
+    let w = check_whole tree _ told printed later d refl in record {
+      tree = tree;
+      program = holds_program looked file tree tells g;
       report = w.0;
       text = subst (λ (t : List ℕ). Appends sent.before sent.after t) (rw (w.1, w.2) refl) sends;
     }
@@ -308,7 +326,9 @@ tells_meaning None looked sent told answers = no_meaning looked sent told (usage
 tells_meaning (Some (seq task)) looked sent told answers = λ tells le.
     let a = answered (Some (seq task)) looked sent told (λ f. omega (arith, le, f)) (λ f. omega (arith, le, f)) answers in
     seq_by task looked sent told a.added a.printed a.later tells le a.sends a.by
-tells_meaning (Some (check file)) looked sent told answers = tt
+tells_meaning (Some (check file)) looked sent told answers = λ tells le.
+    let a = answered (Some (check file)) looked sent told (λ f. omega (arith, le, f)) (λ f. omega (arith, le, f)) answers in
+    check_by file looked sent told a.added a.printed a.later tells le a.sends a.by
 tells_meaning (Some (replay task script log)) looked sent told answers = λ tells le.
     let a = answered (Some (replay task script log)) looked sent told (λ f. omega (arith, le, f)) (λ f. omega (arith, le, f)) answers in
     replay_by task script log looked sent told a.added a.printed a.later tells le a.sends a.by

@@ -12,6 +12,8 @@ use Rattle.morta_task.specs.Legal.{EndsAll, last_in}
 use Rattle.weave.specs.declared.script.Command.{Command as Order}
 use Rattle.weave.specs.Replay.{IsScriptReplay}
 use Rattle.parcae.specs.declared.replays.TheConstants.{CAPACITY}
+use Rattle.nona_stages.specs.Seen.{seen_of}
+use Rattle.nona_report.specs.Report.{report_text}
 use Rattle.morta_text.specs.Texts.{number_lines, outcome_text, memory_text, log_text}
 use Rattle.morta_exec.specs.Places.{most, IsBehind, StartsNext}
 use Rattle.parcae.specs.declared.refusal.Refusal.TheVariants.{Usage}
@@ -20,7 +22,7 @@ use Rattle.parcae.specs.declared.status.Status.TheVariants as status
 use Rattle.parcae.specs.Words.{Command, seq, check, replay}
 use Rattle.fate_io.specs.Outside.{Outside}
 use Rattle.parcae.specs.Texts.{full_line}
-use Rattle.parcae.specs.Told.{logged, finished}
+use Rattle.parcae.specs.Told.{bare, logged, finished}
 use Rattle.parcae.specs.Ends.{Way, Whole, Early, Unbegun}
 use Rattle.parcae.specs.Files.{DueOf, IsBad, GivesProgram, GivesInput, NoInput, GivesScript, refusing}
 
@@ -67,6 +69,11 @@ DueOfReplay tree numbers commands turns =
     DueOfDrive tree (entries_in (replay_image tree) tree numbers turns) (meaning_of tree numbers turns)
     (IsScriptReplay CAPACITY commands (entries_in (replay_image tree) tree numbers turns))
 
+-- what is due of the report on the loops of a program: the whole report, of which nothing but a status is told
+pub data DueOfCheck (tree : Program) : Way → Type 0 where
+  check_ran : DueOfCheck tree (Whole (bare status.Done) [] (report_text (seen_of tree)))
+  check_unbegun : DueOfCheck tree (Unbegun empty_log)
+
 -- all files were read, and none of the reads failed
 abbrev pub AllRead : (Way → Type 0) → List (List ℕ) → Way → Type 0
 AllRead due added way = (added ≡ []) × due way
@@ -78,7 +85,8 @@ DueOfCommand outside (Some (seq task)) added way =
     DueOf (IsBad source.Program outside task.file) (GivesProgram outside task.file) (λ tree.
     DueOf (NoInput outside task.input) (GivesInput outside task.input) (λ numbers.
     AllRead (DueOfSeq tree (meaning_of tree numbers task.turns) task.memory))) added way
-DueOfCommand outside (Some (check file)) added way = (added ≡ []) × (way ≡ Unbegun empty_log)
+DueOfCommand outside (Some (check file)) added way =
+    DueOf (IsBad source.Program outside file) (GivesProgram outside file) (λ tree. AllRead (DueOfCheck tree)) added way
 DueOfCommand outside (Some (replay task script log)) added way =
     DueOf (IsBad source.Program outside task.file) (GivesProgram outside task.file) (λ tree.
     DueOf (NoInput outside task.input) (GivesInput outside task.input) (λ numbers.

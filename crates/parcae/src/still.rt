@@ -2,11 +2,12 @@ ghost use Rattle.std.specs.Prelude.{◌≡◌, ◌≤◌, map, string_bytes, Som
 ghost use Rattle.parcae.specs.Told.{told_of};
 ghost use Rattle.fate_io.specs.Sending.{sent_since};
 ghost use Rattle.parcae.specs.declared.words.TheConstants.{TURN_LIMIT};
-ghost use Rattle.parcae.specs.Words.{seq, replay, meant};
+ghost use Rattle.parcae.specs.Words.{seq, check, replay, meant};
 ghost use Rattle.parcae.specs.Meant.{task_of};
 ghost use Rattle.fate_io.specs.Reading.{looked_since};
 ghost use Rattle.parcae.specs.Answers.{Answers, IsComplete};
 
+use crate::check::report_loops;
 use crate::files::{input_in, program_in, script_in};
 use crate::refusal::{Refusal, Stop, give_up};
 use crate::replays::replay_script;
@@ -31,6 +32,19 @@ fn seq<S: Shelf, K: Sink>(alloc: Global, run: &Run, shelf: &mut S, out: &mut K) 
             Ok(input) => run_in_sequence(alloc, &program, input, run.turns, run.memory, out),
             Err(stop) => give_up(alloc, stop, out),
         },
+        Err(stop) => give_up(alloc, stop, out),
+    }
+}
+
+/// The command `check`: says of each loop of a program whether it is a region, and how it may run, or why it is none.
+fn check<S: Shelf, K: Sink>(alloc: Global, file: &str, shelf: &mut S, out: &mut K) -> Report
+    ensures same { S.held shelf.new ≡ S.held shelf.old }
+    ensures answers { Answers (Some (check file.now))
+        (looked_since S.held S.failed shelf.old shelf.new)
+        (sent_since K.written K.faults out.old out.new) (told_of result) }
+{
+    match program_in(alloc, file, shelf) {
+        Ok(program) => report_loops(alloc, &program, out),
         Err(stop) => give_up(alloc, stop, out),
     }
 }
@@ -78,7 +92,7 @@ fn still<S: Shelf, K: Sink>(alloc: Global, words: &[String], shelf: &mut S, out:
 {
     match command_of(alloc, words) {
         Ok(Some(Command::Seq(run))) => seq(alloc, &run, shelf, out),
-        Ok(Some(Command::Check { .. })) => give_up(alloc, Stop::NoMemory, out),
+        Ok(Some(Command::Check { file })) => check(alloc, file.as_str(), shelf, out),
         Ok(Some(Command::Replay { run, script, log })) => {
             replay(alloc, &run, script.as_str(), log, shelf, out)
         }

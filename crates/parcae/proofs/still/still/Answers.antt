@@ -3,7 +3,7 @@ use Rattle.parcae.specs.declared.refusal.Refusal.TheVariants.{Usage}
 use Rattle.parcae.specs.Due.{DueOfCommand}
 use Rattle.parcae.specs.Files.{seen}
 use Rattle.parcae.specs.Meant.{task_of}
-use Rattle.parcae.specs.Words.{replay, meant}
+use Rattle.parcae.specs.Words.{check, replay, meant}
 use Rattle.parcae.specs.Answers.{Answers}
 use Rattle.parcae.proofs.Ending.{ends_refused}
 use Rattle.parcae.proofs.Answering.{starved_answer}
@@ -13,6 +13,12 @@ pub returns-in-Ok-Some-Seq-clause-answers : goal.returns-in-Ok-Some-Seq-clause-a
 returns-in-Ok-Some-Seq-clause-answers g c =
     let told = rw (c.in-Ok-Some-Seq.field-0-is, c.in-Ok-Some-Seq.field-0-0-is) at c.in-Ok-Some-Seq.ensures in
     rw told.meant c.seq.ensures.answers
+
+pub returns-in-Ok-Some-Check-clause-answers : goal.returns-in-Ok-Some-Check-clause-answers
+returns-in-Ok-Some-Check-clause-answers g c =
+    let told = rw (c.in-Ok-Some-Check.field-0-is, c.in-Ok-Some-Check.field-0-0-is) at c.in-Ok-Some-Check.ensures in
+    let answers = rw c.as_str.ensures.value at c.check.ensures.answers in
+    rw told.meant answers
 
 pub returns-in-Ok-Some-Replay-clause-answers : goal.returns-in-Ok-Some-Replay-clause-answers
 returns-in-Ok-Some-Replay-clause-answers g c =
