@@ -1,5 +1,5 @@
 -- What may be run for a request.
-use Rattle.std.proofs.Common.{◌≡◌, ◌<◌, ◌≤◌, ◌-◌, ℕ, suc, Bool, true, false, List, length, take, refl, sym, ap, subst, ◌∙◌, arith, inl, inr, if◌then◌else◌, IsTrue, None, Some, slice_get}
+use Rattle.std.proofs.Common.{◌≡◌, ◌<◌, ◌≤◌, ◌-◌, ℕ, suc, Bool, true, false, List, length, take, refl, sym, ap, subst, ◌∙◌, arith, inl, inr, if◌then◌else◌, IsTrue, None, Some, slice_get, ◌&&◌}
 use Rattle.std.specs.declared.option.Option.{Option}
 use Rattle.std.specs.Int.{int_gap}
 use Rattle.std.proofs.lemmas.List.{length-take-le}
@@ -12,7 +12,7 @@ use Rattle.morta_task.specs.declared.schemes.Scheme.TheVariants.{Seq, Any, Pipe}
 use Rattle.morta_task.specs.declared.schemes.Config.{Config}
 use Rattle.morta_task.specs.declared.intervals.Handoff.{Handoff}
 use Rattle.morta_task.specs.ImageView.{ImageView}
-use Rattle.morta_task.specs.Entries.{EntryView, IsEntered, has_stages, offers, last}
+use Rattle.morta_task.specs.Entries.{EntryView, IsEntered, has_stages, is_guarded, offers, last}
 use Rattle.morta_task.specs.LogView.{LogView, IsAtHand, last_one, next_one}
 use Rattle.morta_task.specs.Promise.{Promise, Keeps}
 use Rattle.morta_task.specs.Running.{IsConfig, seq_one, chosen, limited, limit_of, IsIn, IsHandoff, MayRun}
@@ -44,11 +44,16 @@ keeps_same promise m = record {
   alone = ((λ h. h), (λ h. h));
 }
 
--- an entry offers what its plan has
-offers_has : (e : EntryView) (s : Scheme) → e.any ≡ e.plan.any → e.pipe ≡ has_stages e.plan → offers e s ≡ has e.plan s
-offers_has e Seq any pipe = refl
-offers_has e Any any pipe = any
-offers_has e Pipe any pipe = pipe
+first_of : (a b : Bool) → IsTrue (a && b) → IsTrue a
+first_of true b h = refl
+first_of false b h = h
+
+-- an entry offers only what its plan has
+offers_has : (e : EntryView) (s : Scheme) → e.any ≡ (e.plan.any && is_guarded e) → e.pipe ≡ (has_stages e.plan && is_guarded e)
+    → IsTrue (offers e s) → IsTrue (has e.plan s)
+offers_has e Seq any pipe h = refl
+offers_has e Any any pipe h = first_of e.plan.any (is_guarded e) (subst IsTrue any h)
+offers_has e Pipe any pipe h = first_of (has_stages e.plan) (is_guarded e) (subst IsTrue pipe h)
 
 offered_by : (e : EntryView) (c : Config) (b : Bool) → offers e c.scheme ≡ b → IsTrue (offers e (if b then c else seq_one).scheme)
 offered_by e c true is = is
@@ -68,7 +73,8 @@ served_by : {M : Type 0} (promise : Promise M) (first now : M) (image : ImageVie
     → ServesAll promise first image → IsIn e image → IsEntered e → Keeps promise first now → promise.names first c.scheme
     → offers e c.scheme ≡ b → promise.serves now e.looped e.plan (if b then c else seq_one).scheme
 served_by promise first now image e c true serves region entered keeps names is =
-    let has_it : has region.code.plan c.scheme ≡ true = ap (λ (p : Plan). has p c.scheme) region.plan ∙ sym (offers_has e c.scheme entered.any entered.pipe) ∙ is in
+    let has_it : IsTrue (has region.code.plan c.scheme) =
+    subst (λ (p : Plan). IsTrue (has p c.scheme)) (sym region.plan) (offers_has e c.scheme entered.any entered.pipe (offered_by e c true is)) in
     (keeps.serves e.looped e.plan c.scheme).0
     (served_as promise first e region.code c.scheme region.looped region.plan (serves (e.region - 1) region.code c.scheme region.there (inr (names, has_it))))
 served_by promise first now image e c false serves region entered keeps names is =

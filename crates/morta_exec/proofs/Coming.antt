@@ -18,7 +18,7 @@ use Rattle.nona_code.specs.MainStops.{Stops, opened}
 use Rattle.morta_task.specs.declared.opening.Opening.{Opening}
 use Rattle.morta_task.specs.RegionView.{RegionView}
 use Rattle.morta_task.specs.declared.intervals.Interval.{Interval}
-use Rattle.morta_task.specs.Entries.{EntryView, entered, plan_of, numbered}
+use Rattle.morta_task.specs.Entries.{EntryView, entered, plan_there, numbered}
 use Rattle.morta_task.specs.LogView.{LogView}
 use Rattle.morta_task.specs.Promise.{Promise}
 use Rattle.morta_task.specs.Legal.{entry_number, begun, last_in, EndsAll}
@@ -46,7 +46,7 @@ pub numbered_is : (regions : List RegionView) (n k number : ℕ) (looped : Loop)
     → slice_get regions (number - 1) ≡ Some code → looped ≡ code.looped
     → numbered regions n k (opened number looped low high m) ≡ entered (opening k number low high) code.looped code.plan n m
 numbered_is regions n k number looped low high m code found same =
-    λ i. entered (opening k number low high) (same i) (plan_of (found i)) n m
+    λ i. entered (opening k number low high) (same i) (plan_there (found i)) n m
 
 pub next_at : {A : Type 0} (xs : List A) (x : A) (ys : List A) → slice_get (xs ++ (x ∷ ys)) (length xs) ≡ Some x
 next_at [] x ys = refl

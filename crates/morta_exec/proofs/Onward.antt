@@ -28,7 +28,7 @@ use Rattle.morta_task.specs.Legal.{begun, EndsAll}
 use Rattle.morta_exec.specs.Began.{Began, all_entries, whole_run}
 use Rattle.morta_exec.specs.Places.{most, ClosedBy, ComesBehind, after_interval}
 use Rattle.morta_exec.specs.EntryRun.{whole_loop, HasEnded}
-use Rattle.morta_exec.specs.MainRun.{Between, AtEntry, IsOver, IsOpened, to_come}
+use Rattle.morta_exec.specs.MainRun.{Between, AtEntry, IsOver, CanEnter, IsOpened, to_come}
 use Rattle.morta_exec.proofs.Growing.{some_same, front_is, extends_same}
 use Rattle.morta_exec.proofs.Coming.{Prints, opening, numbered_is, next_at}
 
@@ -45,6 +45,13 @@ region_there later b rest r number low high are at =
     (subst (λ (os : List Opened). All (IsEntryOf (regions_all (is_region_of b.image) b.image.main)) os) (ap (λ (c : Course). c.entries) at.whole) are) in
     let within : number - 1 < count_all (is_region_of b.image) b.image.main = slice_get_within (regions_all (is_region_of b.image) b.image.main) (number - 1) at.looped there.1 in
     (there.0, omega (arith, within), there.1)
+
+-- and may be entered there
+pub can_enter : {M : Type 0} (later : Ran → Course → Type 0) (b : Began M) (rest : Course) (r : Memory) (number : ℕ) (low high : ℤ)
+    → All (IsEntryOf (regions_all (is_region_of b.image) b.image.main)) rest.entries → IsAtRegion later rest number low high r b.from.turns → CanEnter b.image number r
+can_enter later b rest r number low high are at =
+    let there = region_there later b rest r number low high are at in
+    record { first = there.0; few = there.1; looped = at.looped; there = there.2; scoped = at.scoped }
 
 -- a run that came to a region is at the entry to it
 at_entry : {M : Type 0} (promise : Promise M) (left later : Ran → Course → Type 0) (b : Began M) (now : M) (m r : Memory) (log : LogView) (number : ℕ) (low high : ℤ)
@@ -106,11 +113,9 @@ at_entry promise left later b now m r log number low high o e is prints w at ope
 
 -- the same of what a frame stopped at
 pub region_at : {M : Type 0} (promise : Promise M) (left later : Ran → Course → Type 0) (b : Began M) (now : M) (m r : Memory) (log : LogView) (stop : Stop) (number : ℕ) (low high : ℤ)
-    → (w : Between promise left b now m log) → Stops later w.rest b.from.turns stop r → stop ≡ stops.Region number low high
-    → (1 ≤ number) × (number ≤ count_all (is_region_of b.image) b.image.main)
+    → (w : Between promise left b now m log) → Stops later w.rest b.from.turns stop r → stop ≡ stops.Region number low high → CanEnter b.image number r
 region_at promise left later b now m r log stop number low high w at is =
-    let there = region_there later b w.rest r number low high w.are_regions (subst (λ s. Stops later w.rest b.from.turns s r) is at) in
-    (there.0, there.1)
+    can_enter later b w.rest r number low high w.are_regions (subst (λ s. Stops later w.rest b.from.turns s r) is at)
 
 pub entry_at : {M : Type 0} (promise : Promise M) (left later : Ran → Course → Type 0) (b : Began M) (now : M) (m r : Memory) (log : LogView) (stop : Stop) (number : ℕ) (low high : ℤ)
     (o : Opening) (e : EntryView) → Prints later → (w : Between promise left b now m log) → Stops later w.rest b.from.turns stop r → stop ≡ stops.Region number low high

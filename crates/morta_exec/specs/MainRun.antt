@@ -2,13 +2,14 @@
 use Rattle.std.specs.Prelude.{◌≡◌, ℕ, ◌+◌, ◌-◌, ◌≤◌, ◌∷◌, ◌++◌, List, [], length, All, None, Some, slice_get}
 use Rattle.std.specs.declared.option.Option.{Option}
 use Rattle.nona_tree.specs.declared.outcomes.Outcome.{Outcome}
+use Rattle.nona_tree.specs.declared.trees.Loop.{Loop}
 use Rattle.nona_tree.specs.declared.trees.Stmt.{For}
 use Rattle.nona_tree.specs.Memory.{Memory, Extends}
 use Rattle.nona_tree.specs.Run.{Ran, done, Reaches}
 use Rattle.nona_tree.specs.Numbers.{AreI64, IsI64, IsI64Stmt}
-use Rattle.nona_tree.specs.Scope.{IsSteady}
+use Rattle.nona_tree.specs.Scope.{IsScoped, IsSteady}
 use Rattle.nona_tree.specs.Smallness.{IsSmallLoop}
-use Rattle.nona_tree.specs.Entries.{regions_all, IsEntryOf}
+use Rattle.nona_tree.specs.Entries.{regions_all, count_all, IsEntryOf}
 use Rattle.nona_code.specs.Course.{Course}
 use Rattle.morta_task.specs.declared.opening.Opening.{Opening}
 use Rattle.morta_task.specs.RegionView.{RegionView}
@@ -67,6 +68,14 @@ pub record IsOver {M : Type 0} (promise : Promise M) (b : Began M) (log : LogVie
 abbrev pub GoesOnTo : {M : Type 0} → Promise M → (Ran → Course → Type 0) → Began M → M → LogView → Memory → Option Outcome → Type 0
 GoesOnTo promise left b now log store None = Between promise left b now store log
 GoesOnTo promise left b now log store (Some end) = IsOver promise b log store end
+
+-- The region of an image with this number may be entered in this store, which has the scalars and the arrays that its loop names.
+pub record CanEnter (image : ImageView) (number : ℕ) (m : Memory) : Type 0 where
+  pub first : 1 ≤ number
+  pub few : number ≤ count_all (is_region_of image) image.main
+  pub looped : Loop
+  pub there : slice_get (regions_all (is_region_of image) image.main) (number - 1) ≡ Some looped
+  pub scoped : IsScoped (For looped) (length m.scalars) (length m.arrays)
 
 -- an entry opens so, in this store: it is to the region of an image with this number
 pub record IsOpened (image : ImageView) (opening : Opening) (n : ℕ) (m : Memory) (e : EntryView) : Type 0 where

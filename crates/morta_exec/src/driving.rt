@@ -39,8 +39,8 @@ fn frame_of(alloc: Global, image: &Image) -> Result<CodeFrame<'_>, AllocError>
 /// the numbers that it printed on the sink, one put for each line. An entry has one interval at least. The numbers that the
 /// main statements print are put before the next entry.
 ///
-/// After a fault the log has the intervals that were run up to there, and `morta` is spent. Takes constant time for an
-/// interval beside the runner's own, and the store is never copied.
+/// After a fault the log has the intervals that were run up to there, and `morta` is spent. Takes the guard's time for an entry
+/// and constant time for an interval beside the runner's own, and the store is never copied.
 pub fn drive<M: Runner + Asker, K: Sink>(
     alloc: Global,
     image: &Image,
@@ -86,7 +86,7 @@ pub fn drive<M: Runner + Asker, K: Sink>(
 /// At each region that the run comes to its iterations run one after another. The numbers that the main statements print are
 /// put on the sink before the region, and those of the region behind it, one put for each line.
 ///
-/// After a fault a front of the lines of all numbers that the run prints was put. Takes constant time for an entry beside the
+/// After a fault a front of the lines of all numbers that the run prints was put. Takes the guard's time for an entry beside the
 /// iterations, and the store is never copied.
 pub fn run_through<K: Sink>(
     alloc: Global,

@@ -12,7 +12,7 @@ ghost use Rattle.morta_exec.specs.Log.{ServesAll};
 ghost use Rattle.morta_exec.specs.Places.{most};
 ghost use Rattle.morta_exec.specs.Puts.{HasPut};
 ghost use Rattle.morta_exec.specs.EntryRun.{HasStopped};
-ghost use Rattle.morta_exec.specs.MainRun.{Between, AtEntry, IsOver, GoesOnTo, IsOpened, BeginsEntry};
+ghost use Rattle.morta_exec.specs.MainRun.{Between, AtEntry, IsOver, GoesOnTo, CanEnter, IsOpened, BeginsEntry};
 
 use crate::entry_run::{loops_of_entries, run_entry};
 use crate::fault::DriveFault;
@@ -46,12 +46,11 @@ fn next_number(log: &Log) -> u32
     log.entries().len() as u32 + 1
 }
 
-/// The entry that opens so, and what its first interval begins with.
+/// The entry that opens so, and what its first interval begins with. Its guard is asked once.
 pub fn arrive<M, K>(start: &Start<'_, M, K>, opening: Opening, store: Store) -> Arrival
     requires some_turns { 1 ≤ start.now.turns }
     requires few_turns { start.now.turns ≤ 10 ^ 12 }
-    requires first { 1 ≤ opening.region }
-    requires there { opening.region ≤ count_all (is_region_of start.now.image.now) start.now.image.now.main }
+    requires enters { CanEnter start.now.image.now opening.region store }
     ensures opened { IsOpened start.now.image.now opening start.now.turns store result.entry }
     ensures begins { BeginsEntry result }
 {
@@ -59,7 +58,7 @@ pub fn arrive<M, K>(start: &Start<'_, M, K>, opening: Opening, store: Store) -> 
     store.is_kept();
     let code = code_of(start.image, opening.region);
     let entry = Entry::begin(opening, code, start.turns, &store);
-    let kept = Entry::begin(opening, code, start.turns, &store);
+    let kept = entry.again(code, &store);
     let handoff = Handoff {
         next: opening.low,
         store,

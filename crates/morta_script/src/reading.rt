@@ -1,5 +1,8 @@
 ghost use Rattle.std.specs.Prelude.{◌≡◌, ◌≤◌, ◌^◌, ℕ, length, Ok, Err, IfOk, MatchResult};
+ghost use Rattle.morta_task.specs.declared.schemes.Scheme.{Scheme};
+ghost use Rattle.morta_task.specs.declared.schemes.Scheme.TheVariants.{Seq};
 ghost use Rattle.weave.specs.Following.{AreCommands};
+ghost use Rattle.weave.specs.Replay.{UsesScheme};
 ghost use Rattle.morta_script.specs.Lines.{commands_of, line_by, words_of};
 ghost use Rattle.morta_script.specs.Turns.{with_kind};
 
@@ -57,6 +60,7 @@ pub fn read_script(alloc: Global, text: &[u8]) -> Result<Script, ScriptFault>
     requires { length text.now ≤ 2 ^ 20 }
     ensures script { IfOk result (λ script. commands_of text.now ≡ Ok script.commands.items) }
     ensures valid { IfOk result (λ script. AreCommands script.commands.items) }
+    ensures seq { IfOk result (λ script. (s : Scheme) → UsesScheme script.commands.items s → s ≡ Seq) }
     ensures refused { (line : ℕ) → result ≡ Err (ScriptFault.Line line) → commands_of text.now ≡ Err line }
 {
     let mut commands = Vec::new(alloc);

@@ -1,3 +1,1 @@
-pub mod SameEntries
-pub mod OfRegions
 pub mod Says

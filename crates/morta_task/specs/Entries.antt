@@ -1,5 +1,5 @@
 -- The entries of a run, as contracts see them.
-use Rattle.std.specs.Prelude.{◌≡◌, ℕ, ◌+◌, ◌-◌, ◌≤◌, Bool, true, ℤ, pos, ◌+ℤ◌, List, [], ◌∷◌, length, nat_lt, slice_get, None, Some, Ok}
+use Rattle.std.specs.Prelude.{◌≡◌, ℕ, ◌+◌, ◌-◌, ◌≤◌, Bool, true, ◌&&◌, ℤ, pos, ◌+ℤ◌, List, [], ◌∷◌, length, nat_lt, slice_get, None, Some, Ok}
 use Rattle.std.specs.declared.option.Option.{Option}
 use Rattle.std.specs.Int.{int_gap}
 use Rattle.nona_tree.specs.declared.plans.Plan.{Plan}
@@ -12,7 +12,8 @@ use Rattle.nona_tree.specs.Run.{Ran}
 use Rattle.nona_tree.specs.Scope.{IsScoped, IsSteady}
 use Rattle.nona_tree.specs.Smallness.{IsSmallLoop}
 use Rattle.nona_tree.specs.Entries.{Opened, Entry, after, entries_all, last_of}
-use Rattle.nona_stages.specs.Seen.{seq_plan}
+use Rattle.nona_forms.specs.Guards.{guard_of}
+use Rattle.nona_plans.specs.Plans.{bare}
 use Rattle.morta_task.specs.declared.opening.Opening.{Opening}
 use Rattle.morta_task.specs.RegionView.{RegionView}
 use Rattle.morta_task.specs.declared.schemes.Scheme.{Scheme}
@@ -37,7 +38,11 @@ pub record EntryView : Type 0 where
 abbrev pub has_stages : Plan → Bool
 has_stages plan = nat_lt 0 (length plan.pipe)
 
--- the entry that opens so, to a region with this loop and this plan: it offers the versions that the plan has
+-- whether the guard of a loop holds for the entry that opens so, where a loop may take n turns, in this store
+abbrev pub holds_at : Opening → Loop → ℕ → Memory → Bool
+holds_at opening looped n m = guard_of looped m opening.low (last_of opening.low opening.high n) n
+
+-- the entry that opens so, to a region with this loop and this plan: it offers the versions that the plan has, where the guard holds
 abbrev pub entered : Opening → Loop → Plan → ℕ → Memory → EntryView
 entered opening looped plan n m = record {
   number = opening.number;
@@ -47,8 +52,8 @@ entered opening looped plan n m = record {
   low = opening.low;
   high = opening.high;
   turns = n;
-  any = plan.any;
-  pipe = has_stages plan;
+  any = plan.any && holds_at opening looped n m;
+  pipe = has_stages plan && holds_at opening looped n m;
   store = m;
 }
 
@@ -61,6 +66,10 @@ offers e Pipe = e.pipe
 -- the number behind the last index of an entry: its low where it has no turn, and never more turns than it may take
 abbrev pub last : EntryView → ℤ
 last e = last_of e.low e.high e.turns
+
+-- whether the guard of its loop holds for an entry
+abbrev pub is_guarded : EntryView → Bool
+is_guarded e = guard_of e.looped e.store e.low (last e) e.turns
 
 -- the entry as a loop that was entered
 abbrev pub loop_of : EntryView → Entry
@@ -80,7 +89,7 @@ IsWithin e index = (index ≡ e.low +ℤ pos (before e index)) × (before e inde
 
 -- What stands of each entry of a checked program: the bounds have these values in its store, which has the scalars and the
 -- arrays that the loop names; no index in the loop is assigned, and it is small; all numbers of the loop, the store and the
--- bounds have 64 bits; and the entry offers the versions that its plan has.
+-- bounds have 64 bits; and the entry offers the versions that its plan has, where its guard holds.
 pub record IsEntered (e : EntryView) : Type 0 where
   pub low_is : value_of e.looped.low e.store ≡ Ok e.low
   pub high_is : value_of e.looped.high e.store ≡ Ok e.high
@@ -91,19 +100,19 @@ pub record IsEntered (e : EntryView) : Type 0 where
   pub store_numbers : AreI64 e.store
   pub low_number : IsI64 e.low
   pub high_number : IsI64 e.high
-  pub any : e.any ≡ e.plan.any
-  pub pipe : e.pipe ≡ has_stages e.plan
+  pub any : e.any ≡ (e.plan.any && is_guarded e)
+  pub pipe : e.pipe ≡ (has_stages e.plan && is_guarded e)
 
 -- the plan of a region, where it is there
-abbrev pub plan_of : Option RegionView → Plan
-plan_of None = seq_plan
-plan_of (Some code) = code.plan
+abbrev pub plan_there : Option RegionView → Plan
+plan_there None = bare
+plan_there (Some code) = code.plan
 
 -- a region that the run comes to, with this number in order
 abbrev pub numbered : List RegionView → ℕ → ℕ → Opened → EntryView
 numbered regions n number o =
     let opening : Opening = record { number = number; region = o.region; low = o.low; high = o.high } in
-    entered opening o.looped (plan_of (slice_get regions (o.region - 1))) n o.store
+    entered opening o.looped (plan_there (slice_get regions (o.region - 1))) n o.store
 
 -- regions that a run comes to, numbered from this one on
 abbrev pub numbered_from : List RegionView → ℕ → ℕ → List Opened → List EntryView

@@ -4,8 +4,6 @@ pub mod Entries
 pub mod ImageView
 pub mod ImageKept
 pub mod ImageInside
-pub mod OfSeen
-pub mod InSequence
 pub mod EntryInside
 pub mod LogView
 pub mod Running

@@ -1,6 +1,10 @@
-ghost use Rattle.std.specs.Prelude.{◌≡◌, ◌≤◌};
+ghost use Rattle.std.specs.Prelude.{◌≡◌, ◌≤◌, ◌&&◌, length};
 ghost use Rattle.morta_task.specs.declared.limits.TheConstants as limits;
+ghost use Rattle.nona_tree.specs.declared.trees.Stmt.{For};
 ghost use Rattle.nona_tree.specs.Entries.{last_of};
+ghost use Rattle.nona_tree.specs.Scope.{IsScoped};
+ghost use Rattle.nona_tree.specs.Smallness.{IsSmallLoop};
+ghost use Rattle.nona_forms.specs.Guards.{guard_of};
 ghost use Rattle.morta_task.specs.Entries.{entered, offers, last, has_stages};
 
 use crate::opening::Opening;
@@ -11,8 +15,8 @@ use nona_store::Store;
 use std::marker::Model;
 use std::snapshot::Snapshot;
 
-/// A coming of the run to a region. For contracts alone it names the loop and the plan of the region and the store of that
-/// moment.
+/// A coming of the run to a region, with the versions that it offers. For contracts alone it names the loop and the plan of the
+/// region and the store of that moment.
 #[derive(Drop)]
 pub struct Entry {
     number: u32,
@@ -50,12 +54,43 @@ fn last_index(low: i64, high: i64, turns: u64) -> i64
     offset(low, gap(low, high).min(turns))
 }
 
+/// Which versions an entry offers beside `Seq`.
+#[derive(Clone, Copy)]
+struct Offer {
+    any: bool,
+    pipe: bool,
+}
+
+/// The versions of a region's plan, where the guard of its loop holds for the iterations from `low` to `last - 1`. The guard is
+/// asked once, and only where the plan has a version.
+fn offer_of(code: &RegionCode, low: i64, last: i64, turns: u64, store: &Store) -> Offer
+    requires scoped { IsScoped (For code.now.looped) (length store.now.scalars) (length store.now.arrays) }
+    requires small { IsSmallLoop code.now.looped }
+    ensures any { result.any ≡ (code.now.plan.any && guard_of code.now.looped store.now low last turns) }
+    ensures pipe { result.pipe ≡ (has_stages code.now.plan && guard_of code.now.looped store.now low last turns) }
+{
+    let any = code.plan().any;
+    let pipe = !code.plan().pipe.is_empty();
+    if any || pipe {
+        let holds = code.guard().fits(store, low, last, turns);
+        Offer {
+            any: any && holds,
+            pipe: pipe && holds,
+        }
+    } else {
+        Offer { any, pipe }
+    }
+}
+
 impl Entry {
     /// The entry that opens so, to the region of this code, in this store. A loop may take `turns` turns, from 1 to `TURNS`,
-    /// whenever it is entered. Takes constant time: nothing of the loop, the plan or the store is copied.
+    /// whenever it is entered. Where the region's plan has a version, its guard is asked; beside that it takes constant time:
+    /// nothing of the loop, the plan or the store is copied.
     pub fn begin(opening: Opening, code: &RegionCode, turns: u64, store: &Store) -> Entry
         requires some_turns { 1 ≤ turns }
         requires few_turns { turns ≤ limits.TURNS }
+        requires scoped { IsScoped (For code.now.looped) (length store.now.scalars) (length store.now.arrays) }
+        requires small { IsSmallLoop code.now.looped }
         ensures { result ≡ entered opening code.now.looped code.now.plan turns store.now }
     {
         let Opening {
@@ -64,15 +99,38 @@ impl Entry {
             low,
             high,
         } = opening;
+        let last = last_index(low, high, turns);
+        let offer = offer_of(code, low, last, turns, store);
         Entry {
             number,
             region,
             low,
             high,
-            last: last_index(low, high, turns),
+            last,
             turns,
-            any: code.plan().any,
-            pipe: !code.plan().pipe.is_empty(),
+            any: offer.any,
+            pipe: offer.pipe,
+            code: Snapshot::of(code),
+            store: Snapshot::of(store),
+        }
+    }
+
+    /// The same entry once more, whose code and store these are. Takes constant time: the guard isn't asked again.
+    pub fn again(&self, code: &RegionCode, store: &Store) -> Entry
+        requires looped { code.now.looped ≡ self.now.looped }
+        requires plan { code.now.plan ≡ self.now.plan }
+        requires store { store.now ≡ self.now.store }
+        ensures { result ≡ self.now }
+    {
+        Entry {
+            number: self.number,
+            region: self.region,
+            low: self.low,
+            high: self.high,
+            last: self.last,
+            turns: self.turns,
+            any: self.any,
+            pipe: self.pipe,
             code: Snapshot::of(code),
             store: Snapshot::of(store),
         }

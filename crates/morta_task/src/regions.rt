@@ -1,17 +1,21 @@
 ghost use Rattle.std.specs.Prelude.{◌≡◌};
+ghost use Rattle.nona_guard.specs.Guards.{IsGuardOf};
 
+use nona_guard::Guard;
 use nona_tree::{Loop, Plan};
 use nona_units::Units;
 use std::marker::Model;
 use std::snapshot::Snapshot;
 
-/// A region of a program: the code of the statements at the top of its loop's body, and the plan of the versions that it has
-/// beside `seq`. Contracts see the loop and the plan; nothing of the loop's tree is kept when the program runs.
+/// A region of a program: the code of the statements at the top of its loop's body, the plan of the versions that it has
+/// beside `seq`, and the guard that tells of an entry whether they may run. Contracts see the loop and the plan; nothing of the
+/// loop's tree is kept when the program runs.
 #[derive(Drop)]
 pub struct RegionCode {
     looped: Snapshot<Loop>,
     place: u32,
     plan: Plan,
+    guard: Guard,
     units: Units,
 }
 
@@ -32,15 +36,18 @@ impl Model for RegionCode {
 }
 
 impl RegionCode {
-    /// The region of this loop, with a plan, and the code of the statements of its body. Nothing of the loop is copied.
-    pub fn of(looped: &Loop, plan: Plan, units: Units) -> RegionCode
-        requires { units.body ≡ looped.now.body }
+    /// The region of this loop, with a plan, the loop's guard, and the code of the statements of its body. Nothing of the loop is
+    /// copied.
+    pub fn of(looped: &Loop, plan: Plan, guard: Guard, units: Units) -> RegionCode
+        requires units { units.body ≡ looped.now.body }
+        requires guard { IsGuardOf looped.now guard }
         ensures { result ≡ record { looped = looped.now; plan = plan } }
     {
         RegionCode {
             looped: Snapshot::of(looped),
             place: looped.at,
             plan,
+            guard,
             units,
         }
     }
@@ -57,6 +64,13 @@ impl RegionCode {
         ensures { result.now ≡ self.now.plan }
     {
         &self.plan
+    }
+
+    /// The guard of its loop.
+    pub fn guard(&self) -> &Guard
+        ensures { IsGuardOf self.now.looped result.now }
+    {
+        &self.guard
     }
 
     /// The code of the statements at the top of its loop's body, in text order.

@@ -14,7 +14,7 @@ use Rattle.weave.specs.declared.script.Command.{Command}
 use Rattle.weave.specs.Machines.{Machine, is_over, round, RunsOut, at_end, one_round}
 use Rattle.weave.specs.SeqNet.{seq_machine, ran_of}
 use Rattle.weave.specs.Replay.{behind_use, left_behind, IsReplayedIn, IsReplayed, IsDriven, AreDriven, IsReplay}
-use Rattle.weave.specs.ReplayLaws.{Grown, grown}
+use Rattle.weave.proofs.OneMore.{Grown, grown}
 
 ends_here : {N : Type 0} (machine : Machine N) (net end : N) → RunsOut machine net end → is_over machine net ≡ true → end ≡ net
 ends_here machine _ _ (at_end net ended) over = refl

@@ -6,7 +6,7 @@ use Rattle.morta_task.specs.declared.schemes.Ask.{Ask}
 use Rattle.morta_task.specs.declared.intervals.Ran.{Ran}
 use Rattle.morta_task.specs.Entries.{EntryView}
 use Rattle.morta_task.specs.LogView.{LogView, IsAtHand}
-use Rattle.morta_task.specs.Running.{IsConfig, limit_of}
+use Rattle.morta_task.specs.Running.{IsConfig, limit_of, interval_of}
 use Rattle.morta_task.specs.Promise.{GoesOn}
 use Rattle.weave.specs.declared.script.Command.{Command}
 use Rattle.weave.specs.declared.script.Command.TheVariants.{Use, Step, Pause}
@@ -14,7 +14,8 @@ use Rattle.weave.specs.Following.{IsCommand, AreCommands}
 use Rattle.weave.specs.Asking.{IsNoUse, IsUseAt}
 use Rattle.weave.specs.Replay.{behind_use, commands_left, left_at, next_request, current_at, IsReplayed, UsesScheme}
 use Rattle.weave.specs.WeaveView.{WeaveView}
-use Rattle.weave.specs.WeavePromise.{StandsFor, HasAsked, weave_promise}
+use Rattle.weave.specs.WeavePromise.{StandsFor, HasAsked, by_itself, weave_promise}
+use Rattle.weave.proofs.OneMore.{runs_on, asked_at, has_taken}
 
 use_is : (commands : List Command) (at : ℕ) (ask : Ask) (other : Command) → IsUseAt commands at ask → get_or commands at other ≡ Use ask.config ask.until
 use_is commands at ask other h =
@@ -35,12 +36,11 @@ pub use_taken : (w : WeaveView) (log : LogView) (e : EntryView) (rest : List Com
     → w.left ≡ Use ask.config ask.until ∷ rest → HasAsked (record w { left = rest; current = ask.config }) log e
 use_taken w log e rest ask hand s is =
     let there : left_at w.capacity w.script log ≡ Use ask.config ask.until ∷ rest = sym s.left ∙ is in
-    record {
-      hand = hand;
+    by_itself hand (record {
       left = ap behind_use (sym there);
       current = ap (λ (cs : List Command). (next_request cs (current_at w.capacity w.script log)).config) (sym there);
       replay = s.replay;
-    }
+    })
 
 stays : (left : List Command) → IsNoUse left → left ≡ behind_use left
 stays [] none = refl
@@ -56,12 +56,11 @@ same_config (Pause ∷ rest) current none = refl
 
 -- where none came first, nothing is taken
 pub none_taken : (w : WeaveView) (log : LogView) (e : EntryView) → IsAtHand log e → StandsFor w log → IsNoUse w.left → HasAsked w log e
-none_taken w log e hand s none = record {
-  hand = hand;
+none_taken w log e hand s none = by_itself hand (record {
   left = stays w.left none ∙ ap behind_use s.left;
   current = same_config w.left w.current none ∙ (λ k. (next_request (s.left k) (s.current k)).config);
   replay = s.replay;
-}
+})
 
 -- an interval that ran as the replay does goes on from each log for which it was asked
 pub goes_on : (old new : WeaveView) (e : EntryView) (config : Config) (from : ℤ) (limit : ℕ) (done : Ran) → IsReplayed old.capacity config e from limit old.left done
@@ -70,15 +69,16 @@ goes_on old new e config from limit done replayed is =
     subst (λ (w : WeaveView). GoesOn weave_promise old w e config from limit done) (sym is) on where
       on : GoesOn weave_promise old (record old { left = commands_left old.capacity config e from limit old.left }) e config from limit done
       on log ask asked is_chosen limit_is =
+          let taken = has_taken old log e asked in
           let before = behind_use (left_at old.capacity old.script log) in
           let there : IsReplayed old.capacity config e from (limit_of e from ask.until) before done =
           subst (λ (l : ℕ). IsReplayed old.capacity config e from l before done) limit_is
-          (subst (λ (cs : List Command). IsReplayed old.capacity config e from limit cs done) asked.left replayed) in
-          record {
-            hand = asked.hand;
+          (subst (λ (cs : List Command). IsReplayed old.capacity config e from limit cs done) taken.left replayed) in
+          runs_on (record old { left = commands_left old.capacity config e from limit old.left }) log e (interval_of e ask config from done) (record {
+            hand = asked_at old log e asked;
             number = refl;
             replayed = there;
-            left = λ k. commands_left old.capacity config e from (limit_is k) (asked.left k);
-            current = asked.current;
-            replay = asked.replay;
-          }
+            left = λ k. commands_left old.capacity config e from (limit_is k) (taken.left k);
+            current = taken.current;
+            replay = taken.replay;
+          })

@@ -8,5 +8,6 @@ pub mod Few
 pub mod Steps
 pub mod Exact
 pub mod Intervals
+pub mod OneMore
 pub mod Asks
 pub mod Agree

@@ -9,4 +9,3 @@ pub mod Net
 pub mod WeaveView
 pub mod WeaveInside
 pub mod WeavePromise
-pub mod ReplayLaws

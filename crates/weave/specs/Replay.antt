@@ -31,7 +31,7 @@ IsReplayedIn Pipe workers capacity e from limit commands done = ⊥
 
 -- What an interval did that ran in this configuration, where a link holds so many messages, from an index up to a limit, with
 -- these commands left at its start: the commands are followed, and then the tasks step round robin until all have finished.
--- No entry offers `any` or `pipe` yet.
+-- A replay runs `seq` alone so far: no interval in another version is one of a replay.
 abbrev pub IsReplayed : ℕ → Config → EntryView → ℤ → ℕ → List Command → Ran → Type 0
 IsReplayed capacity config = IsReplayedIn config.scheme config.workers capacity
 

@@ -1,12 +1,10 @@
 -- What a replay promises.
-use Rattle.std.specs.Prelude.{◌≡◌, ◌⊎◌, [], None, Some}
+use Rattle.std.specs.Prelude.{◌≡◌, ◌⊎◌, [], None}
 use Rattle.morta_task.specs.declared.schemes.Scheme.TheVariants.{Seq}
-use Rattle.morta_task.specs.declared.intervals.Interval.{Interval}
 use Rattle.morta_task.specs.Entries.{EntryView}
-use Rattle.morta_task.specs.LogView.{LogView, IsAtHand}
-use Rattle.morta_task.specs.Running.{limit_of}
+use Rattle.morta_task.specs.LogView.{LogView, IsAtHand, with_interval}
 use Rattle.morta_task.specs.Promise.{Promise}
-use Rattle.weave.specs.Replay.{behind_use, left_behind, left_at, current_at, IsReplayed, IsReplayOf, script_asks, UsesScheme}
+use Rattle.weave.specs.Replay.{behind_use, left_at, current_at, IsReplayOf, script_asks, UsesScheme}
 use Rattle.weave.specs.WeaveView.{WeaveView}
 
 -- the log is what the replay of the script makes, and these commands are left behind it, with this configuration
@@ -15,24 +13,20 @@ pub record StandsFor (w : WeaveView) (log : LogView) : Type 0 where
   pub current : w.current ≡ current_at w.capacity w.script log
   pub replay : IsReplayOf w.capacity w.script log
 
--- it stood for the log of this entry, and has asked
-pub record HasAsked (w : WeaveView) (log : LogView) (e : EntryView) : Type 0 where
-  pub hand : IsAtHand log e
+-- the log is what the replay of the script makes, and what the next request takes of the commands was taken behind it
+pub record HasTaken (w : WeaveView) (log : LogView) : Type 0 where
   pub left : w.left ≡ behind_use (left_at w.capacity w.script log)
   pub current : w.current ≡ (script_asks w.capacity w.script log).config
   pub replay : IsReplayOf w.capacity w.script log
 
--- it stood for the log of this entry, has asked, and has run this interval as the replay does
-pub record HasRun (w : WeaveView) (log : LogView) (e : EntryView) (i : Interval) : Type 0 where
-  pub hand : IsAtHand log e
-  pub number : i.entry ≡ e.number
-  pub replayed : IsReplayed w.capacity i.ran e i.from (limit_of e i.from i.asked.until) (behind_use (left_at w.capacity w.script log)) i.done
-  pub left : w.left ≡ left_behind w.capacity (Some e) i (left_at w.capacity w.script log)
-  pub current : w.current ≡ (script_asks w.capacity w.script log).config
-  pub replay : IsReplayOf w.capacity w.script log
+-- what was asked for the entry at hand of a log for which it stood: what it asks for itself, or, where its script is empty,
+-- whatever anyone asks for
+pub data HasAsked (w : WeaveView) (log : LogView) (e : EntryView) : Type 0 where
+  by_itself : IsAtHand log e → HasTaken w log → HasAsked w log e
+  by_anyone : IsAtHand log e → w.script ≡ [] → StandsFor w log → HasAsked w log e
 
 -- It runs `seq` alone, and asks for what its script says; it asks for what it runs itself, but where its script is empty it
--- runs what anyone asks for.
+-- runs what anyone asks for. It need not be told: with an interval it stands for the log with it.
 abbrev pub weave_promise : Promise WeaveView
 weave_promise = record {
   serves = λ w l p s. s ≡ Seq;
@@ -42,7 +36,7 @@ weave_promise = record {
   may_ask = λ w e log ask. ask ≡ script_asks w.capacity w.script log;
   stands_for = λ w log. StandsFor w log;
   asked = λ w log e from ask. HasAsked w log e;
-  ran = λ w log e i. HasRun w log e i;
+  ran = λ w log e i. StandsFor w (with_interval log e i);
   led = λ w. w.script ≡ [];
   alone = λ w. ⊥;
   log_relation = λ w log. IsReplayOf w.capacity w.script log;

@@ -9,8 +9,7 @@ ghost use Rattle.weave.specs.declared.limits.TheConstants as limits;
 ghost use Rattle.weave.specs.Following.{AreCommands};
 ghost use Rattle.weave.specs.Replay.{commands_left, IsReplayed};
 ghost use Rattle.weave.specs.Asking.{IsNoUse, IsUseAt};
-ghost use Rattle.weave.specs.WeavePromise.{weave_promise};
-ghost use Rattle.weave.specs.ReplayLaws.{led_by_any, runs_on};
+ghost use Rattle.weave.specs.WeavePromise.{weave_promise, by_anyone};
 
 use crate::following::follow;
 use crate::net::Net;
@@ -121,7 +120,7 @@ impl Morta for Weave {
 impl Runner for Weave {
     ghost runs_only = { λ w log h. h.replay };
 
-    ghost led = { record { by_any = λ w log e from ask led hand h. led_by_any w log e led hand h; untold = λ w log e i led h. runs_on w log e i h } };
+    ghost led = { record { by_any = λ w log e from ask led hand h. by_anyone hand led h; untold = λ w log e i led h. h } };
 
     fn interval(
         &mut self,

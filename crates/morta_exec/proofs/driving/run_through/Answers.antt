@@ -1,4 +1,4 @@
-use Rattle.std.proofs.Common.{◌≡◌, sym, subst}
+use Rattle.std.proofs.Common.{sym, subst}
 use Rattle.fate_io.specs.Sending.{sent_since}
 use Rattle.nona_tree.specs.Memory.{Memory}
 use Rattle.nona_code.specs.MainLeft.{IsLeft}

@@ -39,9 +39,9 @@ pub arrive-arrival-requires : goal.arrive-arrival-requires
 arrive-arrival-requires g c =
     let n = c.args.start.now.turns in
     let w = c.requires.between in
-    let there = region_at g.M.Morta.promise (g.F.MainFrame.left c.args.frame.now n) (g.F.MainFrame.left c.next.new.self n) (began c.args.start.now) c.args.morta.now c.args.store c.next.new.store c.args.log.now
+    let enters = region_at g.M.Morta.promise (g.F.MainFrame.left c.args.frame.now n) (g.F.MainFrame.left c.next.new.self n) (began c.args.start.now) c.args.morta.now c.args.store c.next.new.store c.args.log.now
     c.in_ok-stop.stop c.in-Region.number c.in-Region.low c.in-Region.high w (c.in_ok-stop.ensures.stops w.rest w.left_is) c.in-Region.is in
-    record { some_turns = c.requires.some_turns; few_turns = c.requires.few_turns; first = there.0; there = there.1 }
+    record { some_turns = c.requires.some_turns; few_turns = c.requires.few_turns; enters = enters }
 
 pub run_region-requires-clause-at : goal.run_region-requires-clause-at
 run_region-requires-clause-at g c =

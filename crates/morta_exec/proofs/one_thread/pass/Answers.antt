@@ -6,7 +6,7 @@ use Rattle.morta_exec.specs.Began.{began, whole_run}
 use Rattle.morta_exec.proofs.Stopping.{handed_on}
 use Rattle.morta_exec.proofs.Passing.{shown_front}
 use Rattle.morta_exec.proofs.Coming.{front_put}
-use Rattle.morta_exec.proofs.Onward.{region_there}
+use Rattle.morta_exec.proofs.Onward.{can_enter}
 use Rattle.morta_exec.proofs.Through.{broken_more, through_prints, stop_prints, through_ended, through_region}
 use Rattle.morta_exec.proofs.one_thread.pass.Goals as goal
 
@@ -28,9 +28,9 @@ arrive-arrival-requires g c =
     let n = c.args.start.now.turns in
     let w = c.requires.through in
     let later = g.F.MainFrame.left c.next.new.self n in
-    let there = region_there later (began c.args.start.now) w.rest c.next.new.store c.in-Region.number c.in-Region.low c.in-Region.high w.are_regions
+    let enters = can_enter later (began c.args.start.now) w.rest c.next.new.store c.in-Region.number c.in-Region.low c.in-Region.high w.are_regions
     (subst (λ s. Stops later w.rest n s c.next.new.store) c.in-Region.is (c.in-Ok.ensures.stops w.rest w.left_is)) in
-    record { some_turns = c.requires.some_turns; few_turns = c.requires.few_turns; first = there.0; there = there.1 }
+    record { some_turns = c.requires.some_turns; few_turns = c.requires.few_turns; enters = enters }
 
 pub pass_region-requires-clause-at : goal.pass_region-requires-clause-at
 pass_region-requires-clause-at g c =

@@ -1,4 +1,4 @@
-use Rattle.std.proofs.Common.{rules, ◌≡◌, ◌+◌, length, ◌+ℤ◌, sym, ap, subst, ◌∙◌, arith, w64}
+use Rattle.std.proofs.Common.{rules, ◌+◌, length, sym, ap, subst, ◌∙◌, arith, w64}
 use Rattle.std.proofs.lemmas.Int.{to_z-of_z}
 use Rattle.nona_tree.specs.Run.{Ran, done}
 use Rattle.nona_tree.specs.Scope.{AreScoped}

@@ -1,5 +1,4 @@
--- One more interval of a replay. These proofs stand here and not in proofs/, since the laws of a trait's impl cite them, and a
--- source file may cite nothing of its own crate but specs/.
+-- One more interval of a replay.
 use Rattle.std.proofs.Common.{◌≡◌, ◌-◌, ◌==◌, ℕ, ℤ, zero, suc, Bool, true, false, List, [], ◌∷◌, ◌++◌, length, refl, sym, ap, subst, ◌∙◌, arith, Option, None, Some, slice_get, if◌then◌else◌, eq-eqb, length-append}
 use Rattle.morta_task.specs.declared.schemes.Scheme.{Scheme}
 use Rattle.morta_task.specs.declared.schemes.Scheme.TheVariants.{Seq, Any, Pipe}
@@ -9,9 +8,9 @@ use Rattle.morta_task.specs.Entries.{EntryView}
 use Rattle.morta_task.specs.LogView.{LogView, with_interval, IsAtHand, last_one, next_one}
 use Rattle.morta_task.specs.Running.{limit_of, seq_one}
 use Rattle.weave.specs.declared.script.Command.{Command}
-use Rattle.weave.specs.Replay.{behind_use, commands_left_in, left_behind, left_after, left_at, next_request, current_after, current_at, IsReplayed, IsDriven, AreDriven}
+use Rattle.weave.specs.Replay.{behind_use, commands_left_in, left_behind, left_after, left_at, next_request, current_after, current_at, script_asks, IsReplayed, IsReplayOf, IsDriven, AreDriven}
 use Rattle.weave.specs.WeaveView.{WeaveView}
-use Rattle.weave.specs.WeavePromise.{StandsFor, HasAsked, HasRun}
+use Rattle.weave.specs.WeavePromise.{StandsFor, HasTaken, HasAsked, by_itself, by_anyone}
 
 -- what is left behind one more interval
 left_snoc : (capacity : ℕ) (es : List EntryView) (is : List Interval) (i : Interval) (commands : List Command)
@@ -99,6 +98,15 @@ found_in log e i (next_one number) =
       found = ap (λ (es : List EntryView). slice_get es (e.number - 1)) same ∙ ap (slice_get (log.entries ++ e ∷ [])) back ∙ at_end log.entries e;
     }
 
+-- it stood for the log of this entry, has asked, and has run this interval as the replay does
+pub record HasRun (w : WeaveView) (log : LogView) (e : EntryView) (i : Interval) : Type 0 where
+  pub hand : IsAtHand log e
+  pub number : i.entry ≡ e.number
+  pub replayed : IsReplayed w.capacity i.ran e i.from (limit_of e i.from i.asked.until) (behind_use (left_at w.capacity w.script log)) i.done
+  pub left : w.left ≡ left_behind w.capacity (Some e) i (left_at w.capacity w.script log)
+  pub current : w.current ≡ (script_asks w.capacity w.script log).config
+  pub replay : IsReplayOf w.capacity w.script log
+
 -- what has run stands for the log with it
 pub runs_on : (w : WeaveView) (log : LogView) (e : EntryView) (i : Interval) → HasRun w log e i → StandsFor w (with_interval log e i)
 runs_on w log e i h =
@@ -145,14 +153,23 @@ none_after : (capacity : ℕ) (es : List EntryView) (is : List Interval) → lef
 none_after capacity es [] = refl
 none_after capacity es (i ∷ is) = ap (left_after capacity es is) (none_behind capacity (slice_get es (i.entry - 1)) i) ∙ none_after capacity es is
 
--- a replay of an empty script runs what anyone asks for
-pub led_by_any : (w : WeaveView) (log : LogView) (e : EntryView) → w.script ≡ [] → IsAtHand log e → StandsFor w log → HasAsked w log e
-led_by_any w log e empty hand s =
+-- where a script is empty, nothing is taken of it
+none_taken_of : (w : WeaveView) (log : LogView) → w.script ≡ [] → StandsFor w log → HasTaken w log
+none_taken_of w log empty s =
     let none : left_at w.capacity w.script log ≡ [] =
     ap (left_after w.capacity log.entries log.intervals) empty ∙ none_after w.capacity log.entries log.intervals in
     record {
-      hand = hand;
       left = s.left ∙ none ∙ ap behind_use (sym none);
       current = s.current ∙ ap (λ (cs : List Command). (next_request cs (current_at w.capacity w.script log)).config) (sym none);
       replay = s.replay;
     }
+
+-- whoever asked, it stood for the log of the entry at hand
+pub asked_at : (w : WeaveView) (log : LogView) (e : EntryView) → HasAsked w log e → IsAtHand log e
+asked_at w log e (by_itself hand taken) = hand
+asked_at w log e (by_anyone hand empty stands) = hand
+
+-- and what the next request takes was taken
+pub has_taken : (w : WeaveView) (log : LogView) (e : EntryView) → HasAsked w log e → HasTaken w log
+has_taken w log e (by_itself hand taken) = taken
+has_taken w log e (by_anyone hand empty stands) = none_taken_of w log empty stands
