@@ -1,15 +1,17 @@
--- The loops of a program outside regions, and what is seen of them by the rule in force.
-use Rattle.std.specs.Prelude.{ℕ, ◌+◌, ◌==◌, Option, None, Some, Bool, false, if◌then◌else◌, List, [], ◌∷◌, ◌++◌, map}
+-- The loops of a program outside regions, and what is seen of them by their plans.
+use Rattle.std.specs.Prelude.{ℕ, ◌+◌, ◌==◌, Option, None, Some, Bool, not, ◌&&◌, ◌||◌, nat_lt, if◌then◌else◌, List, [], ◌∷◌, ◌++◌, map, length}
 use Rattle.nona_tree.specs.declared.plans.Plan.{Plan}
 use Rattle.nona_tree.specs.declared.trees.Loop.{Loop}
 use Rattle.nona_tree.specs.declared.trees.Program.{Program}
 use Rattle.nona_tree.specs.declared.trees.Stmt.{Stmt, If', While', For', Row_of-Stmt, end_of-Stmt, more_of-Stmt, items-the_row-Stmt}
 use Rattle.nona_tree.specs.Entries.{may_reshape, loop_with}
+use Rattle.nona_forms.specs.Calm.{is_calm}
+use Rattle.nona_plans.specs.Plans.{bare, plan_of}
 use Rattle.nona_stages.specs.declared.seen.Region.{Region}
+use Rattle.nona_stages.specs.declared.seen.Plain.{Plain}
+use Rattle.nona_stages.specs.declared.seen.Plain.TheVariants as why
 use Rattle.nona_stages.specs.declared.seen.Seen.{Seen}
 use Rattle.nona_stages.specs.declared.seen.Seen.TheVariants as seen
-use Rattle.nona_stages.specs.declared.seen.Plain.TheVariants as why
-use Rattle.nona_stages.specs.declared.outer.Mark.{Mark}
 
 abbrev mutual
   -- the loops in a statement that lie in no region, in text order, where a test chooses the regions: each region, and each other
@@ -31,24 +33,28 @@ abbrev pub outer_all : (Loop → Bool) → List Stmt → List Loop
 outer_all chosen [] = []
 outer_all chosen (s ∷ rest) = outer_in chosen s ++ outer_all chosen rest
 
--- a plan of the version `seq` alone
-abbrev pub seq_plan : Plan
-seq_plan = record { any = false; pipe = []; crossing = [] }
+-- whether a plan has a version beside `seq`
+abbrev pub has_version : Plan → Bool
+has_version p = p.any || nat_lt 0 (length p.pipe)
 
--- the place of a loop, and whether it is a region by the rule in force
-abbrev pub mark_of : Loop → Mark
-mark_of l = record { at = l.at; region = may_reshape l }
+-- whether a loop is a region: it isn't written `seq for`, and its plan has a version beside `seq`
+abbrev pub is_parallel : Loop → Bool
+is_parallel l = may_reshape l && has_version (plan_of l)
 
--- what is seen of marked loops, where the first region among them has this number
-abbrev pub seen_from : ℕ → List Mark → List Seen
+-- why a loop is no region
+abbrev pub plain_of : Loop → Plain
+plain_of l = if l.seq then why.Seq else if is_calm l then why.Tied else why.Wild
+
+-- what is seen of loops, where the first region among them has this number
+abbrev pub seen_from : ℕ → List Loop → List Seen
 seen_from number [] = []
-seen_from number (mark ∷ rest) =
-    if mark.region then seen.Region (record { number = number; at = mark.at; plan = seq_plan }) ∷ seen_from (number + 1) rest
-    else seen.Plain mark.at why.Seq ∷ seen_from number rest
+seen_from number (l ∷ rest) =
+    if is_parallel l then seen.Region (record { number = number; at = l.at; plan = plan_of l }) ∷ seen_from (number + 1) rest
+    else seen.Plain l.at (plain_of l) ∷ seen_from number rest
 
--- what is seen of the loops of a program by the rule in force
+-- what is seen of the loops of a program
 abbrev pub seen_of : Program → List Seen
-seen_of p = seen_from 1 (map mark_of (outer_all may_reshape p.body))
+seen_of p = seen_from 1 (outer_all is_parallel p.body)
 
 -- the regions that are seen
 abbrev pub regions_of : List Seen → List Region
@@ -65,11 +71,11 @@ abbrev pub region_at : List Region → ℕ → Option Region
 region_at [] at = None
 region_at (r ∷ rest) at = if r.at == at then Some r else region_at rest at
 
--- the plan of a region, or of the version `seq` alone where there is none
-abbrev pub plan_or_seq : Option Region → Plan
-plan_or_seq None = seq_plan
-plan_or_seq (Some r) = r.plan
+-- the plan of a region, or one with no version where there is none
+abbrev pub plan_or_bare : Option Region → Plan
+plan_or_bare None = bare
+plan_or_bare (Some r) = r.plan
 
--- the plan of the first region whose word stands at a place, or of the version `seq` alone where there is none
+-- the plan of the first region whose word stands at a place, or one with no version where there is none
 abbrev pub plan_at : List Region → ℕ → Plan
-plan_at rs at = plan_or_seq (region_at rs at)
+plan_at rs at = plan_or_bare (region_at rs at)

@@ -2,12 +2,12 @@
 
 ghost use Rattle.std.specs.Prelude.{◌≡◌, IfOk, OnOk};
 ghost use Rattle.nona_tree.specs.Entries.{is_among};
-ghost use Rattle.nona_stages.specs.Seen.{regions_of, seen_places, plan_at, seq_plan};
+ghost use Rattle.nona_stages.specs.Seen.{regions_of, seen_places, plan_at};
 ghost use Rattle.nona_stages.specs.PlansInside.{HasAdded};
 
+use crate::planning::without_stages;
 use crate::seen::Seen;
 use nona_tree::{Loop, Plan};
-use sqlite_items::Items;
 use std::alloc::{AllocError, Global};
 use std::collections::BTreeMap;
 use std::marker::Model;
@@ -31,17 +31,6 @@ impl<'a> Model for Plans<'a> {
     ghost view = { λ a. a.seen.now };
 
     ghost invariant = { IsPlans };
-}
-
-/// The plan of the version `seq` alone.
-pub(crate) fn seq_plan(alloc: Global) -> Plan
-    ensures { result ≡ seq_plan }
-{
-    Plan {
-        any: false,
-        pipe: Items::new(alloc),
-        crossing: Items::new(alloc),
-    }
 }
 
 /// Adds what is seen with this index in front of what was added.
@@ -78,7 +67,7 @@ impl<'a> Plans<'a> {
         self.by_place.contains_key(&looped.at)
     }
 
-    /// The plan of a loop: that of the region at its place, and that of the version `seq` alone where there is none. It is
+    /// The plan of a loop: that of the region at its place, and one with no version beside `seq` where there is none. It is
     /// refused for want of memory alone.
     pub fn plan(&self, alloc: Global, looped: &Loop) -> Result<Plan, AllocError>
         ensures { IfOk result (λ plan. plan ≡ plan_at (regions_of self.now) looped.now.at) }
@@ -86,9 +75,9 @@ impl<'a> Plans<'a> {
         match self.by_place.get(&looped.at) {
             Some(at) => match &self.seen[*at] {
                 Seen::Region(region) => region.plan.copy(alloc),
-                Seen::Plain { at: _, why: _ } => Ok(seq_plan(alloc)),
+                Seen::Plain { at: _, why: _ } => Ok(without_stages(alloc, false)),
             },
-            None => Ok(seq_plan(alloc)),
+            None => Ok(without_stages(alloc, false)),
         }
     }
 }

@@ -14,9 +14,10 @@ pub struct Region {
 pub enum Plain {
     /// It is written `seq for`.
     Seq,
-    /// Something in it can't be told apart: it may trap or run for ever where it runs out of order.
+    /// It isn't calm: something besides an index, an empty array or the turns of an inner loop may end an iteration early, or an
+    /// index or a bound has no form, so that its iterations can't be told apart.
     Wild,
-    /// Its iterations depend on one another.
+    /// It is calm, but its iterations depend on one another, so that its plan has no version.
     Tied,
 }
 
