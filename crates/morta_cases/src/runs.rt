@@ -1,32 +1,20 @@
 //! Runs in one thread: statement by statement, and interval by interval.
 
-ghost use Rattle.std.specs.Prelude.{◌≡◌, ◌≤◌, IfOk};
-ghost use Rattle.nona_tree.specs.Checking.{IsChecked};
 ghost use Rattle.morta_task.specs.LogView.{empty_log};
 ghost use Rattle.morta_exec.specs.Log.{ServesAll};
-ghost use Rattle.morta_cases.specs.Cases.{image_of_case, store_of_case};
+ghost use Rattle.nona_gen.specs.OfSeen.{planned_image};
 
 use crate::programs::checked_of;
 use fate_io::MemorySink;
 use morta_exec::{Beginning, drive, run_through};
 use morta_plain::{OneThread, PlainAsker};
-use morta_task::{Asker, Both, Image, Log, Runner, images_keep};
-use nona_gen::generate;
-use nona_stages::regions;
+use morta_task::{Asker, Both, Log, Runner};
+use nona_gen::compile;
 use nona_store::{Ended, Store};
 use nona_tree::{Checked, Outcome, Trap, TrapKind, checked_is_scoped};
-use std::alloc::{AllocError, Global};
+use std::alloc::Global;
 use std::process::Abort;
 use std::test::Fail;
-
-/// The image of a program, each loop of which that may run in other versions is a region.
-pub fn image_of(alloc: Global, checked: &Checked) -> Result<Image, AllocError>
-    ensures { IfOk result (λ image. image ≡ image_of_case checked.now) }
-{
-    images_keep();
-    let seen = regions(alloc, checked)?;
-    generate(alloc, checked, &seen)
-}
 
 /// How a run ended, what it put, and its log.
 #[derive(Drop)]
@@ -43,11 +31,11 @@ pub fn driven<M: Runner + Asker>(
     morta: &mut M,
 ) -> Result<Run, Fail>
     requires stands { (M.promise).stands_for morta.old empty_log }
-    requires serves { ServesAll M.promise morta.old (image_of_case checked.now) }
+    requires serves { ServesAll M.promise morta.old (planned_image checked.now) }
 {
     checked_is_scoped();
     checked.program();
-    let image = image_of(alloc, checked)?;
+    let image = compile(alloc, checked)?;
     let store = Store::start(alloc, checked, Vec::new(alloc))?;
     let mut put = MemorySink::new(alloc, 1000, Vec::new(alloc))?;
     let mut log = Log::new(alloc);
@@ -60,7 +48,7 @@ pub fn driven<M: Runner + Asker>(
 fn passed(alloc: Global, checked: &Checked) -> Result<Ended, Fail> {
     checked_is_scoped();
     checked.program();
-    let image = image_of(alloc, checked)?;
+    let image = compile(alloc, checked)?;
     let store = Store::start(alloc, checked, Vec::new(alloc))?;
     let mut put = MemorySink::new(alloc, 1000, Vec::new(alloc))?;
     let from = Beginning { store, turns: 100 };
@@ -91,32 +79,76 @@ fn assert_driven(
     Ok(())
 }
 
+/// The trap of this kind at this place.
+fn trap(kind: TrapKind, at: u32) -> Outcome {
+    Outcome::Trap(Trap { kind, at })
+}
+
+/// Compares a program's run in intervals and its run without a log.
+fn assert_runs(
+    rt: &impl Abort,
+    alloc: Global,
+    text: &[u8],
+    want: (Outcome, usize),
+    put: &[u8],
+) -> Result<(), Fail> {
+    let checked = checked_of(rt, alloc, text)?;
+    assert_driven(rt, alloc, &checked, want, put)?;
+    assert_eq!(rt; passed(alloc, &checked)?.outcome, want.0);
+    Ok(())
+}
+
 #[test]
-fn runs_of_one_thread(rt: HostRuntime) -> Result<(), Fail> {
-    let alloc = rt.alloc();
-    let trap = Outcome::Trap(Trap {
-        kind: TrapKind::Divide,
-        at: 24,
-    });
-    let table: [(&[u8], &[u8], Outcome, usize); 3] = [
+fn runs_of_regions(rt: HostRuntime) -> Result<(), Fail> {
+    let table: [(&[u8], &[u8], Outcome, usize); 4] = [
         (
-            b"for i in 0..5 { print i; } print 9;",
-            b"0\n1\n2\n3\n4\n9\n",
+            b"for i in 0..5 { let x = i * i; print x; } print 9;",
+            b"0\n1\n4\n9\n16\n9\n",
             Outcome::Done,
             3,
         ),
         (
-            b"for i in 0..5 { print 7 / (3 - i); }",
-            b"2\n3\n7\n",
-            trap,
+            b"array a[3]; for i in 0..5 { let x = a[i]; print x; }",
+            b"0\n0\n0\n",
+            trap(TrapKind::Index, 36),
             2,
         ),
-        (b"while 1 {}", b"", Outcome::OutOfTurns { at: 0 }, 0),
+        (
+            b"for i in 0..2 { for j in 0..200 {} }",
+            b"",
+            Outcome::OutOfTurns { at: 16 },
+            1,
+        ),
+        (
+            b"for i in 0..200 {}",
+            b"",
+            Outcome::OutOfTurns { at: 0 },
+            50,
+        ),
     ];
     for (text, put, outcome, intervals) in table {
-        let checked = checked_of(&rt, alloc, text)?;
-        assert_driven(&rt, alloc, &checked, (outcome, intervals), put)?;
-        assert_eq!(rt; passed(alloc, &checked)?.outcome, outcome);
+        assert_runs(&rt, rt.alloc(), text, (outcome, intervals), put)?;
+    }
+    Ok(())
+}
+
+#[test]
+fn runs_of_other_loops(rt: HostRuntime) -> Result<(), Fail> {
+    let table: [(&[u8], &[u8], Outcome); 3] = [
+        (
+            b"for i in 0..5 { print i; } print 9;",
+            b"0\n1\n2\n3\n4\n9\n",
+            Outcome::Done,
+        ),
+        (
+            b"for i in 0..5 { print 7 / (3 - i); }",
+            b"2\n3\n7\n",
+            trap(TrapKind::Divide, 24),
+        ),
+        (b"while 1 {}", b"", Outcome::OutOfTurns { at: 0 }),
+    ];
+    for (text, put, outcome) in table {
+        assert_runs(&rt, rt.alloc(), text, (outcome, 0), put)?;
     }
     Ok(())
 }

@@ -26,3 +26,6 @@ pub mod MainStands
 pub mod Standing
 pub mod Marks
 pub mod Keeping
+pub mod SameEntries
+pub mod OfRegions
+pub mod ByPlans

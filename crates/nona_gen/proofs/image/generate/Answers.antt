@@ -5,7 +5,7 @@ use Rattle.nona_code.specs.Main.{StandsForMain}
 use Rattle.nona_stages.specs.declared.seen.Seen.{Seen}
 use Rattle.morta_task.specs.ImageKept.{CanRun}
 use Rattle.morta_task.specs.ImageView.{ImageView}
-use Rattle.morta_task.specs.OfSeen.{planned}
+use Rattle.nona_gen.specs.OfSeen.{planned}
 use Rattle.nona_gen.specs.Gathered.{is_seen}
 use Rattle.nona_gen.proofs.image.generate.Goals as goal
 
@@ -19,4 +19,4 @@ assemble-requires c =
     let regions = c.in_ok-regions.ensures ∙ ap (λ (s : List Seen). map (planned s) (regions_all (is_seen s) p.body)) same in
     subst (λ (image : ImageView). CanRun code image)
     (λ i. let image : ImageView = record { main = (sym c.program.ensures.program i).body; regions = sym regions i } in image)
-    (c.images_keep.ensures.kept p seen code c.program.ensures.checked stands)
+    (c.images_keep.ensures p seen code c.program.ensures.checked stands)

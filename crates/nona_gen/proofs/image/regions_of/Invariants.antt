@@ -1,6 +1,6 @@
 use Rattle.std.proofs.Common.{◌≡◌, ◌++◌, drop}
 use Rattle.std.specs.Prelude.{map}
-use Rattle.morta_task.specs.OfSeen.{planned}
+use Rattle.nona_gen.specs.OfSeen.{planned}
 use Rattle.nona_gen.specs.Gathered.{loops_of}
 use Rattle.nona_gen.proofs.image.regions_of.Given as goal
 
