@@ -6,6 +6,7 @@ use Rattle.std.specs.Io.KnownBytes.{Appends}
 use Rattle.fate_io.specs.Sending.{Sent}
 use Rattle.nona_tree.specs.declared.trees.Program.{Program}
 use Rattle.nona_tree.specs.Run.{Ran, meaning_of}
+use Rattle.nona_gen.specs.OfSeen.{planned_image}
 use Rattle.morta_task.specs.Entries.{EntryView}
 use Rattle.morta_task.specs.LogView.{LogView}
 use Rattle.weave.specs.declared.script.Command.{Command as Order}
@@ -24,7 +25,7 @@ use Rattle.parcae.specs.Texts.{refusal_line}
 use Rattle.parcae.specs.Told.{Told, bare, logged, finished, IsBare}
 use Rattle.parcae.specs.Ends.{Whole, whole, write_failed, no_memory, unbegun}
 use Rattle.parcae.specs.Files.{limit_of, IsLong, failed, long, text, GivesProgram, GivesInput, GivesScript}
-use Rattle.parcae.specs.Due.{where_asked, replay_image, entries_in}
+use Rattle.parcae.specs.Due.{where_asked, entries_in}
 use Rattle.parcae.specs.Answers.{Answers, HoldsProgram, HoldsInput, HoldsScript}
 use Rattle.parcae.specs.Statuses.{OfEachCall, TellsFiles, IsBrokenOff, TellsUsage, HasFault, TellsFault, HasFailedRead, TellsFailedRead, TellsFailedWrite, HasLongFile, TellsLongFile, HasFullLog, TellsFullLog, IsWholeReplay, run_text, HasRunInSequence, HasReplayed, HasReported, TellsMeaning}
 use Rattle.parcae.proofs.Telling.{seq_whole, check_whole, DriveWhole, is_ran, is_full, drive_whole, ended_code, WholeBy, by_words, by_file, by_run, whole_by, runs_code, answered, says_of, refused_code, fault_code, text_code, bad_code, one_source, held_content}
@@ -283,7 +284,7 @@ check_by file looked sent told added printed later tells le sends (by_run (tree,
 drive_by : (task : Task) (script : List ℕ) (log : Bool) (looked : Looked) (sent : Sent) (told : Told) (printed later : List ℕ) (tree : Program) (numbers : List ℤ) (commands : List Order)
     → code_of told.status ≤ 2 → Appends sent.before sent.after (printed ++ later)
     → HoldsProgram looked task.file tree → HoldsInput looked task.input numbers → HoldsScript looked script commands
-    → DriveWhole tree (entries_in (replay_image tree) tree numbers task.turns) (meaning_of tree numbers task.turns) (IsScriptReplay CAPACITY commands (entries_in (replay_image tree) tree numbers task.turns)) task.memory log told printed later
+    → DriveWhole tree (entries_in (planned_image tree) tree numbers task.turns) (meaning_of tree numbers task.turns) (IsScriptReplay CAPACITY commands (entries_in (planned_image tree) tree numbers task.turns)) task.memory log told printed later
     → HasReplayed task script log looked sent told
 drive_by task script log looked sent told printed later tree numbers commands le sends program input orders (is_ran l s ends er ep el) =
     let ran = meaning_of tree numbers task.turns in
@@ -294,7 +295,7 @@ drive_by task script log looked sent told printed later tree numbers commands le
       program = program;
       input = input;
       orders = orders;
-      replay = subst (λ (x : LogView). IsWholeReplay commands (entries_in (replay_image tree) tree numbers task.turns) x) el2
+      replay = subst (λ (x : LogView). IsWholeReplay commands (entries_in (planned_image tree) tree numbers task.turns) x) el2
           (record { whole = record { legal = s.legal; ended = ends }; replayed = s.replayed });
       report = er ∙ ap (finished ran) el2;
       text = subst (λ (x : LogView). Appends sent.before sent.after (run_text tree ran task.memory (where_asked log (log_text x)))) el2

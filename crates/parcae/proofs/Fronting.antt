@@ -1,5 +1,5 @@
 -- What is told of a call that was broken off, by what was written.
-use Rattle.std.proofs.Common.{◌≡◌, ◌≢◌, ◌⊎◌, ℕ, ◌≤◌, Bool, ℤ, List, [], ◌++◌, length, length-append, ap, sym, refl, ◌∙◌, None, Some, inl, inr, arith}
+use Rattle.std.proofs.Common.{◌≡◌, ◌≢◌, ◌⊎◌, ℕ, ◌≤◌, Bool, ℤ, List, [], ◌++◌, length, length-append, ap, sym, refl, ◌∙◌, subst, None, Some, inl, inr, arith}
 use Rattle.std.proofs.lemmas.List.{append_cancel_left}
 use Rattle.std.proofs.lemmas.List.Concat.{flat_map-append}
 use Rattle.std.specs.declared.option.Option.{Option}

@@ -6,7 +6,7 @@ use Rattle.nona_tree.specs.Memory.{Memory, Extends}
 use Rattle.nona_tree.specs.Run.{Ran, start_of, meaning_of}
 use Rattle.morta_task.specs.Entries.{EntryView, entries_of}
 use Rattle.morta_task.specs.ImageView.{ImageView}
-use Rattle.morta_task.specs.InSequence.{image_in_sequence, places_in}
+use Rattle.nona_gen.specs.OfSeen.{planned_image}
 use Rattle.morta_task.specs.LogView.{LogView, empty_log}
 use Rattle.morta_task.specs.Legal.{EndsAll, last_in}
 use Rattle.weave.specs.declared.script.Command.{Command as Order}
@@ -55,10 +55,6 @@ pub data DueOfDrive (tree : Program) (es : List EntryView) (ran : Ran) (stands :
       → Extends m.printed ran.store.printed → DueOfDrive tree es ran stands memory log (Early l (number_lines m.printed))
   drive_unbegun : DueOfDrive tree es ran stands memory log (Unbegun empty_log)
 
--- a program as a replay runs it: its regions are all loops that may run in other versions, and none has another yet
-abbrev pub replay_image : Program → ImageView
-replay_image tree = image_in_sequence tree (places_in tree)
-
 -- the entries of the run of an image of a program over an input
 abbrev pub entries_in : ImageView → Program → List ℤ → ℕ → List EntryView
 entries_in image tree numbers turns = entries_of image turns (start_of tree numbers)
@@ -66,8 +62,8 @@ entries_in image tree numbers turns = entries_of image turns (start_of tree numb
 -- what is due of the replay of a script over a program and an input: the log stands where it is that of the replay
 abbrev pub DueOfReplay : Program → List ℤ → List Order → ℕ → Bool → Bool → Way → Type 0
 DueOfReplay tree numbers commands turns =
-    DueOfDrive tree (entries_in (replay_image tree) tree numbers turns) (meaning_of tree numbers turns)
-    (IsScriptReplay CAPACITY commands (entries_in (replay_image tree) tree numbers turns))
+    DueOfDrive tree (entries_in (planned_image tree) tree numbers turns) (meaning_of tree numbers turns)
+    (IsScriptReplay CAPACITY commands (entries_in (planned_image tree) tree numbers turns))
 
 -- what is due of the report on the loops of a program: the whole report, of which nothing but a status is told
 pub data DueOfCheck (tree : Program) : Way → Type 0 where

@@ -6,6 +6,7 @@ use Rattle.fate_io.specs.Causes.{Rose}
 use Rattle.fate_io.specs.Sending.{Sent}
 use Rattle.nona_tree.specs.declared.trees.Program.{Program}
 use Rattle.nona_tree.specs.Run.{Ran, meaning_of}
+use Rattle.nona_gen.specs.OfSeen.{planned_image}
 use Rattle.morta_task.specs.LogView.{LogView, empty_log}
 use Rattle.morta_task.specs.Entries.{EntryView}
 use Rattle.morta_task.specs.Legal.{IsWholeLog}
@@ -27,7 +28,7 @@ use Rattle.fate_io.specs.Reading.{Looked}
 use Rattle.parcae.specs.Texts.{refusal_line, refusal_status, full_line}
 use Rattle.parcae.specs.Told.{Told, bare, finished, IsBare}
 use Rattle.parcae.specs.Files.{limit_of, Refuses}
-use Rattle.parcae.specs.Due.{where_asked, behind_numbers, replay_image, entries_in}
+use Rattle.parcae.specs.Due.{where_asked, behind_numbers, entries_in}
 use Rattle.parcae.specs.Answers.{Answers, Holds, HoldsProgram, HoldsInput, HoldsScript}
 
 -- a statement is true of each call that answers
@@ -149,7 +150,7 @@ pub record HasReplayed (task : Task) (script : List ℕ) (log : Bool) (looked : 
   pub program : HoldsProgram looked task.file tree
   pub input : HoldsInput looked task.input numbers
   pub orders : HoldsScript looked script commands
-  pub replay : IsWholeReplay commands (entries_in (replay_image tree) tree numbers task.turns) told.log
+  pub replay : IsWholeReplay commands (entries_in (planned_image tree) tree numbers task.turns) told.log
   pub report : told ≡ finished (meaning_of tree numbers task.turns) told.log
   pub text : Appends sent.before sent.after (run_text tree (meaning_of tree numbers task.turns) task.memory (where_asked log (log_text told.log)))
 

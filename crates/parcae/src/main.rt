@@ -3,7 +3,6 @@
 
 mod check;
 mod files;
-mod images;
 mod laws;
 mod refusal;
 mod replays;

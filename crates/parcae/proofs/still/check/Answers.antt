@@ -15,8 +15,8 @@ returns-in-Ok-clause-answers g c =
     (λ way d. follows c.in-Ok.program c.in-Ok.ensures.gives (refl, d)) c.report_loops.ensures
 
 -- the file gave no program
-pub returns-clause-answers : goal.returns-clause-answers
-returns-clause-answers g c =
+pub returns-in-Err-clause-answers : goal.returns-in-Err-clause-answers
+returns-in-Err-clause-answers g c =
     let outside = seen g.S.Shelf.held c.args.shelf.now in
     stopped_answer (DueOfCommand outside (Some (check c.args.file.now))) (IsBad source.Program outside c.args.file.now) _
     (looked_since g.S.Shelf.held g.S.Shelf.failed c.args.shelf.now c.program_in.new.shelf) c.in-Err.stop _ _ refl

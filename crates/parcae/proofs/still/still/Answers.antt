@@ -23,7 +23,7 @@ returns-in-Ok-Some-Check-clause-answers g c =
 pub returns-in-Ok-Some-Replay-clause-answers : goal.returns-in-Ok-Some-Replay-clause-answers
 returns-in-Ok-Some-Replay-clause-answers g c =
     let told = rw (c.in-Ok-Some-Replay.field-0-is, c.in-Ok-Some-Replay.field-0-0-is) at c.in-Ok-Some-Replay.ensures in
-    let answers = rw c.as_str.ensures.value at c.replay.ensures.answers in
+    let answers = rw c.as_str-in-Ok-Some-Replay.ensures.value at c.replay.ensures.answers in
     rw told.meant answers
 
 -- the words are no command, and that line went out
@@ -33,10 +33,10 @@ returns-in-Ok-None-clause-answers g c =
     rw told.meant (
       [],
       sym (append-nil (g.S.Shelf.failed c.args.shelf.now)),
-      ends_refused (DueOfCommand (seen g.S.Shelf.held c.args.shelf.now) None []) Usage _ _ (refl, refl) c.give_up-in-Ok-None.ensures,
+      ends_refused (DueOfCommand (seen g.S.Shelf.held c.args.shelf.now) None []) Usage _ _ (refl, refl) c.give_up.ensures,
     )
 
 -- memory ran out, and nothing was written
-pub returns-clause-answers : goal.returns-clause-answers
-returns-clause-answers g c =
+pub returns-in-Err-clause-answers : goal.returns-in-Err-clause-answers
+returns-in-Err-clause-answers g c =
     ([], sym (append-nil (g.S.Shelf.failed c.args.shelf.now)), starved_answer _ (seen g.S.Shelf.held c.args.shelf.now) _ _ c.give_up-in-Err.ensures)
