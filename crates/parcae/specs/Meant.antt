@@ -1,11 +1,18 @@
 -- A command that was read, as contracts see it.
-use Rattle.std.specs.Prelude.{◌≡◌, ◌≤◌, MatchOption, None, Some, option_map, string_bytes}
+use Rattle.std.specs.Prelude.{◌≡◌, ◌≤◌, List, MatchOption, None, Some, option_map, string_bytes}
 use Rattle.std.specs.declared.option.Option.{Option}
 use Rattle.parcae.specs.declared.words.Run.{Run}
 use Rattle.parcae.specs.declared.words.Command.{Command as Read}
 use Rattle.parcae.specs.declared.words.Command.TheVariants.{Seq, Check, Replay}
 use Rattle.parcae.specs.declared.words.TheConstants.{TURN_LIMIT}
+use Rattle.clap.specs.Matches.{found_of}
+use Rattle.clap.specs.Walk.{Row, rows_of}
+use Rattle.clap.specs.declared.parser.matches.ArgMatches.{ArgMatches}
 use Rattle.parcae.specs.Words.{Task, Command, seq, check, replay}
+
+-- what clap found
+abbrev pub entries : ArgMatches → List Row
+entries found = rows_of (found_of found)
 
 -- what a run takes
 abbrev pub task_of : Run → Task
