@@ -105,14 +105,16 @@ fn still<S: Shelf, K: Sink>(alloc: Global, words: &[String], shelf: &mut S, out:
 ///
 /// - `seq FILE [INPUT] [--turns N] [--memory]` runs the program that the shelf holds under the first name, over the numbers
 ///   that it holds under the second, in one thread.
+/// - `check FILE` says of the program's loops which are regions, with their versions and stages, and why the others are none.
 /// - `replay FILE [INPUT] --script S [--turns N] [--memory] [--log]` replays the script that it holds under S over them.
 ///
-/// The words stand in this order; no name begins with `-`, and N, how many turns a loop may take whenever it is entered, is
-/// from 1 to 10^12, and 10^9 where it isn't said. Each printed number is written on a line, then the outcome where it is not
-/// done, the memory and the log where they are asked for, by one put for each line.
+/// Behind the first word names and options stand in any order. A name doesn't begin with `-`, but is `-` itself or stands behind
+/// `--`. N, how many turns a loop may take whenever it is entered, is from 1 to 10^12, and 10^9 where it isn't said. A run writes
+/// each printed number on a line, then the outcome where it is not done, the memory and the log where they are asked for;
+/// `check` writes its report. Each line is one put.
 ///
 /// The report's status is `Done`, `Trap` or `OutOfTurns` by the program's sequential meaning, with its outcome and store, and
-/// with the log; `LogFull` where an interval would be the 1,048,577th, after the numbers printed where it would start; `Usage`
+/// with the log; of `check` it is `Done`, with neither and with an empty log; `LogFull` where an interval would be the 1,048,577th, after the numbers printed where it would start; `Usage`
 /// where the words are no command; `Refused`, `Input` or `Script` where a text is refused, by its first fault; `TooLong` where
 /// a file holds more than it may; each of these after exactly its own text was written. It is `ReadFailed` only where this
 /// call added the file's name to the shelf's failed names, `WriteFailed` only where the sink's count of faults rose in this
@@ -130,7 +132,7 @@ pub fn parcae_still<S: Shelf, K: Sink>(
     ensures answers { Answers (meant (map string_bytes words.now))
         (looked_since S.held S.failed shelf.old shelf.new)
         (sent_since K.written K.faults out.old out.new) (told_of result) }
-    // A command over held files ends with what is due of its run, whole, where nothing outside fails.
+    // A command over held files ends with what is due of its run or its report, whole, where nothing outside fails.
     ensures complete { IsComplete (meant (map string_bytes words.now))
         (looked_since S.held S.failed shelf.old shelf.new)
         (sent_since K.written K.faults out.old out.new) (told_of result) }
