@@ -1,8 +1,8 @@
 -- The loops outside regions, gathered one after another, and what is seen of them.
-use Rattle.std.proofs.Common.{◌≡◌, ◌≤◌, ◌+◌, ℕ, Bool, true, false, List, [], ◌∷◌, ◌++◌, refl, sym, ap, subst, ◌∙◌, append_assoc, if◌then◌else◌}
+use Rattle.std.proofs.Common.{◌≡◌, ◌<◌, ◌≤◌, ◌+◌, ◌^◌, ℕ, Bool, true, false, List, [], ◌∷◌, ◌++◌, drop, length, get_or, arith, refl, sym, ap, subst, ◌∙◌, append_assoc, if◌then◌else◌}
 use Rattle.std.specs.Prelude.{map, OnOk, Result, Ok, Err}
 use Rattle.std.specs.List.{AllByRecursion}
-use Rattle.std.proofs.lemmas.List.{map-append}
+use Rattle.std.proofs.lemmas.List.{map-append, drop_more}
 use Rattle.nona_tree.specs.declared.trees.Expr.{Expr}
 use Rattle.nona_tree.specs.declared.trees.Loop.{Loop}
 use Rattle.nona_tree.specs.declared.trees.Stmt.{Stmt, If, While, For, Row_of-Stmt, end_of-Stmt, more_of-Stmt, items-the_row-Stmt, items_hidden-the_row-Stmt-0}
@@ -15,7 +15,7 @@ use Rattle.nona_stages.specs.declared.outer.Mark.{Mark}
 use Rattle.nona_stages.specs.declared.seen.Region.{Region}
 use Rattle.nona_stages.specs.declared.seen.Seen.{Seen}
 use Rattle.nona_stages.specs.declared.seen.Seen.TheVariants as seen
-use Rattle.nona_stages.specs.Seen.{outer_in, outer_row, outer_all, is_parallel, plain_of, seen_from}
+use Rattle.nona_stages.specs.Seen.{outer_in, outer_row, outer_all, is_parallel, plain_of, regions_of, seen_from}
 use Rattle.nona_stages.specs.Walking.{AreFew, IsFew, mark_of, seen_at, number_after, seen_marked}
 
 outer_row_at : (chosen : Loop → Bool) (k : _) (row : Row_of-Stmt k) → outer_row chosen row ≡ outer_all chosen (items-the_row-Stmt k row)
@@ -78,6 +78,26 @@ few_first xs ys zs is h = left_of IsFew xs ys (subst AreFew is h)
 pub few_last : (xs ys zs : List Loop) → zs ≡ xs ++ ys → AreFew zs → AreFew ys
 few_last xs ys zs is h = right_of IsFew xs ys (subst AreFew is h)
 
+next_is : (ss : List Stmt) (i : ℕ) (s : Stmt) → i < length ss → s ≡ get_or ss i s → drop i ss ≡ s ∷ drop (i + 1) ss
+next_is ss i s within read = drop_more ss i s within ∙ (λ j. sym read j ∷ drop (i + 1) ss)
+
+-- of statements the one at an index and those behind it, where the loops of those from this index on have few units
+pub few_next : (ss : List Stmt) (i : ℕ) (s : Stmt) → i < length ss → s ≡ get_or ss i s → AreFew (outer_all is_parallel (drop i ss))
+    → AreFew (outer_in is_parallel s) × AreFew (outer_all is_parallel (drop (i + 1) ss))
+few_next ss i s within read h =
+    let parts = ap (outer_all is_parallel) (next_is ss i s within read) in
+    (few_first (outer_in is_parallel s) (outer_all is_parallel (drop (i + 1) ss)) _ parts h, few_last (outer_in is_parallel s) (outer_all is_parallel (drop (i + 1) ss)) _ parts h)
+
+-- the marks of the loops in it, and of those behind it
+pub marks_next : (ss : List Stmt) (i : ℕ) (s : Stmt) (all more : List Mark) → i < length ss → s ≡ get_or ss i s → more ≡ all ++ map mark_of (outer_in is_parallel s)
+    → more ++ map mark_of (outer_all is_parallel (drop (i + 1) ss)) ≡ all ++ map mark_of (outer_all is_parallel (drop i ss))
+marks_next ss i s all more within read is =
+    let here = outer_in is_parallel s in
+    let behind = outer_all is_parallel (drop (i + 1) ss) in
+    ap (λ (front : List Mark). front ++ map mark_of behind) is ∙ append_assoc all (map mark_of here) (map mark_of behind)
+    ∙ ap (λ (back : List Mark). all ++ back) (sym (map-append mark_of here behind))
+    ∙ ap (λ left. all ++ map mark_of (outer_all is_parallel left)) (sym (next_is ss i s within read))
+
 -- what is made of some loops, behind others, and of more behind them
 pub behind_both : {E X : Type 0} (f : Loop → X) (r : Result (Unit {0}) E) (all some more : List X) (xs ys zs : List Loop)
     → zs ≡ xs ++ ys → some ≡ all ++ map f xs → OnOk r (more ≡ some ++ map f ys) → OnOk r (more ≡ all ++ map f zs)
@@ -100,10 +120,15 @@ pub seen_of_marks : (number : ℕ) (ls : List Loop) → seen_marked number (map 
 seen_of_marks number [] = refl
 seen_of_marks number (l ∷ rest) = seen_either (is_parallel l) number l rest (seen_of_marks (number + 1) rest) (seen_of_marks number rest)
 
--- what was gathered behind none
-pub gathered : (first all marks : List Mark) (here body : List Stmt) → first ≡ [] → all ≡ first ++ map mark_of (outer_all is_parallel here)
-    → marks ≡ all → here ≡ body → seen_marked 1 marks ≡ seen_from 1 (outer_all is_parallel body)
-gathered first all marks here body none is same at =
-    ap (seen_marked 1) (same ∙ is ∙ ap (λ (front : List Mark). front ++ map mark_of (outer_all is_parallel here)) none
+-- the number of the next region fits, where those of a loop and of all behind it do
+pub number_fits : (number at : ℕ) (here : Found) (rest : List Seen) → length (regions_of (seen_at number at here ∷ rest)) + number < 2 ^ 32 → number_after number here < 2 ^ 32
+number_fits number at (found.Parallel plan) rest h = omega (arith, h)
+number_fits number at (found.Plain reason) rest h = omega (arith, h)
+
+-- what is seen of the marks that were gathered behind none
+pub gathered : (first marks : List Mark) (here body : List Stmt) → first ≡ [] → marks ≡ first ++ map mark_of (outer_all is_parallel here)
+    → here ≡ body → seen_marked 1 marks ≡ seen_from 1 (outer_all is_parallel body)
+gathered first marks here body none is at =
+    ap (seen_marked 1) (is ∙ ap (λ (front : List Mark). front ++ map mark_of (outer_all is_parallel here)) none
     ∙ ap (λ ss. map mark_of (outer_all is_parallel ss)) at)
     ∙ seen_of_marks 1 (outer_all is_parallel body)

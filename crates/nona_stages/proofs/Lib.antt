@@ -2,5 +2,6 @@ pub mod Passing
 pub mod Steps
 pub mod Linking
 pub mod Gathered
-pub mod Regions
+pub mod FewUnits
+pub mod Planned
 pub mod Places

@@ -129,7 +129,7 @@ fn add(stmt: &Stmt, alloc: Global, marks: &mut Vec<Mark>) -> Result<(), AllocErr
 
 /// What is seen of a marked loop, which has this number if it is a region, and the number of the next region.
 fn numbered(mark: Mark, number: u32) -> (Seen, u32)
-    requires { number + 1 < 2 ^ 32 }
+    requires { number_after number mark.found < 2 ^ 32 }
     ensures seen { result.0 ≡ seen_at number mark.at mark.found }
     ensures next { result.1 ≡ number_after number mark.found }
 {

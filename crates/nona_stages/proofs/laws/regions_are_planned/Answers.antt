@@ -1,4 +1,4 @@
-use Rattle.nona_stages.proofs.Regions.{places_kept, plans_kept, all_parallel, parallel_is_calm}
+use Rattle.nona_stages.proofs.Planned.{places_kept, plans_kept, all_parallel, parallel_is_calm}
 use Rattle.nona_stages.proofs.laws.regions_are_planned.Goals as goal
 
 pub returns-clause-places : goal.returns-clause-places

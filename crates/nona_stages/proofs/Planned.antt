@@ -1,9 +1,9 @@
 -- The regions that are seen are the loops from outside in that are parallel, each with its plan.
-use Rattle.std.proofs.Common.{◌≡◌, ◌<◌, ◌⊎◌, inl, inr, ⊎_elim, ℕ, Bool, true, false, not, cond, ◌&&◌, ◌||◌, ◌==◌, List, [], ◌∷◌, ◌++◌, Some, refl, sym, ap, subst, ◌∙◌, arith, if◌then◌else◌}
+use Rattle.std.proofs.Common.{◌≡◌, ◌<◌, ◌⊎◌, inl, inr, ⊎_elim, ℕ, Bool, true, false, not, cond, ◌&&◌, ◌||◌, ◌==◌, List, [], ◌∷◌, ◌++◌, length, Some, refl, sym, ap, subst, ◌∙◌, arith, if◌then◌else◌}
 use Rattle.std.specs.Prelude.{map, All, IsTrue, filter, ◌+◌}
 use Rattle.std.specs.List.{AllByRecursion, list_any}
 use Rattle.std.proofs.lemmas.Bool.{ne_eqb, eq-eqb}
-use Rattle.std.proofs.lemmas.List.{map-append}
+use Rattle.std.proofs.lemmas.List.{map-append, length-map}
 use Rattle.std.proofs.lemmas.List.Elements.{All-from_recursion, recursion_from_All, All-filter, filter-append, filter_passes}
 use Rattle.nona_tree.specs.declared.plans.Plan.{Plan}
 use Rattle.nona_tree.specs.declared.trees.Loop.{Loop}
@@ -48,7 +48,7 @@ mutual
       chosen_parts chosen (outer_in chosen s) (outer_row chosen rest) _ _ (chosen_in chosen s) (chosen_row chosen rest)
 
 -- the regions by a test are the loops outside regions for which it holds
-pub chosen_all : (chosen : Loop → Bool) (ss : List Stmt) → regions_all chosen ss ≡ filter chosen (outer_all chosen ss)
+chosen_all : (chosen : Loop → Bool) (ss : List Stmt) → regions_all chosen ss ≡ filter chosen (outer_all chosen ss)
 chosen_all chosen [] = refl
 chosen_all chosen (s ∷ rest) =
     chosen_parts chosen (outer_in chosen s) (outer_all chosen rest) _ _ (chosen_in chosen s) (chosen_all chosen rest)
@@ -217,9 +217,16 @@ seen_one true number l rest more same = ap (λ (places : List ℕ). l.at ∷ pla
 seen_one false number l rest more same = same
 
 -- the regions that are seen of loops stand where the parallel ones stand
-pub places_seen : (number : ℕ) (ls : List Loop) → seen_places (seen_from number ls) ≡ places_of (filter is_parallel ls)
+places_seen : (number : ℕ) (ls : List Loop) → seen_places (seen_from number ls) ≡ places_of (filter is_parallel ls)
 places_seen number [] = refl
 places_seen number (l ∷ rest) = seen_one (is_parallel l) number l rest (places_seen (number + 1) rest) (places_seen number rest)
+
+-- there are as many
+pub seen_count : (ss : List Stmt) → length (regions_of (seen_from 1 (outer_all is_parallel ss))) ≡ length (regions_all is_parallel ss)
+seen_count ss =
+    let outer = outer_all is_parallel ss in
+    sym (length-map (regions_of (seen_from 1 outer)) (λ (r : Region). r.at)) ∙ ap length (places_seen 1 outer)
+    ∙ length-map (filter is_parallel outer) (λ (l : Loop). l.at) ∙ ap length (sym (chosen_all is_parallel ss))
 
 pub places_kept : (p : Program) → HasOwnPlaces p → regions_all (is_among (seen_places (seen_of p))) p.body ≡ regions_all is_parallel p.body
 places_kept p own =
