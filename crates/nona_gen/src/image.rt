@@ -102,7 +102,7 @@ fn main_of(alloc: Global, program: &Checked, plans: &Plans<'_>) -> Result<Sound,
 /// and inner bounds, and for each loop outside regions a time logarithmic in the number of regions. It is refused for want of
 /// memory alone, and so is code of 2^31 instructions or more.
 pub fn generate(alloc: Global, program: &Checked, seen: &[Seen]) -> Result<Image, AllocError>
-    requires calm { All (λ l. IsTrue (is_calm l)) (regions_all (is_among (seen_places seen.now)) program.now.body) }
+    requires calm { AreCalm (regions_all (is_among (seen_places seen.now)) program.now.body) }
     ensures { IfOk result (λ image. image ≡ image_by program.now seen.now) }
 {
     images_keep();

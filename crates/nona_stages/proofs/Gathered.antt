@@ -1,5 +1,5 @@
 -- The loops outside regions, gathered one after another, and what is seen of them.
-use Rattle.std.proofs.Common.{◌≡◌, ◌<◌, ◌≤◌, ◌+◌, ◌^◌, ℕ, Bool, true, false, List, [], ◌∷◌, ◌++◌, drop, length, get_or, arith, refl, sym, ap, subst, ◌∙◌, append_assoc, if◌then◌else◌}
+use Rattle.std.proofs.Common.{◌≡◌, ◌<◌, ◌+◌, ◌^◌, ℕ, Bool, true, false, List, [], ◌∷◌, ◌++◌, drop, length, get_or, arith, refl, sym, ap, subst, ◌∙◌, append_assoc, if◌then◌else◌}
 use Rattle.std.specs.Prelude.{map, OnOk, Result, Ok, Err}
 use Rattle.std.specs.List.{AllByRecursion}
 use Rattle.std.proofs.lemmas.List.{map-append, drop_more}
@@ -12,7 +12,6 @@ use Rattle.nona_plans.specs.Plans.{plan_of}
 use Rattle.nona_stages.specs.declared.outer.Found.{Found}
 use Rattle.nona_stages.specs.declared.outer.Found.TheVariants as found
 use Rattle.nona_stages.specs.declared.outer.Mark.{Mark}
-use Rattle.nona_stages.specs.declared.seen.Region.{Region}
 use Rattle.nona_stages.specs.declared.seen.Seen.{Seen}
 use Rattle.nona_stages.specs.declared.seen.Seen.TheVariants as seen
 use Rattle.nona_stages.specs.Seen.{outer_in, outer_row, outer_all, is_parallel, plain_of, regions_of, seen_from}

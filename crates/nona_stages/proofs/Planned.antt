@@ -1,6 +1,6 @@
 -- The regions that are seen are the loops from outside in that are parallel, each with its plan.
-use Rattle.std.proofs.Common.{◌≡◌, ◌<◌, ◌⊎◌, inl, inr, ⊎_elim, ℕ, Bool, true, false, not, cond, ◌&&◌, ◌||◌, ◌==◌, List, [], ◌∷◌, ◌++◌, length, Some, refl, sym, ap, subst, ◌∙◌, arith, if◌then◌else◌}
-use Rattle.std.specs.Prelude.{map, All, IsTrue, filter, ◌+◌}
+use Rattle.std.proofs.Common.{◌≡◌, ◌<◌, ◌⊎◌, inl, inr, ⊎_elim, ℕ, Bool, true, false, cond, ◌&&◌, ◌||◌, ◌==◌, List, [], ◌∷◌, ◌++◌, length, Some, refl, sym, ap, subst, ◌∙◌, arith, if◌then◌else◌}
+use Rattle.std.specs.Prelude.{All, IsTrue, filter, ◌+◌}
 use Rattle.std.specs.List.{AllByRecursion, list_any}
 use Rattle.std.proofs.lemmas.Bool.{ne_eqb, eq-eqb}
 use Rattle.std.proofs.lemmas.List.{map-append, length-map}
@@ -249,8 +249,7 @@ planned_one : (b : Bool) (number : ℕ) (l : Loop) (rest : List Loop) → AllByR
     → AllByRecursion (IsPlanned (if b then seen.Region (record { number = number; at = l.at; plan = plan_of l }) ∷ seen_from (number + 1) rest else seen.Plain l.at (plain_of l) ∷ seen_from number rest))
     (cond b (l ∷ filter is_parallel rest) (filter is_parallel rest))
 planned_one true number l rest behind more same =
-    let first : Region = record { number = number; at = l.at; plan = plan_of l } in
-    (
+    let first : Region = record { number = number; at = l.at; plan = plan_of l } in (
       ap (λ (b : Bool). plan_or_bare (if b then Some first else region_at (regions_of (seen_from (number + 1) rest)) l.at)) (same_place l.at),
       further first (seen_from (number + 1) rest) (filter is_parallel rest) behind more,
     )

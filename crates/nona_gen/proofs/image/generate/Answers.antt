@@ -1,4 +1,4 @@
-use Rattle.std.proofs.Common.{◌≡◌, sym, subst, ap, ◌∙◌, List}
+use Rattle.std.proofs.Common.{sym, subst, ap, ◌∙◌, List}
 use Rattle.std.specs.Prelude.{map}
 use Rattle.nona_tree.specs.Entries.{regions_all}
 use Rattle.nona_code.specs.Main.{StandsForMain}

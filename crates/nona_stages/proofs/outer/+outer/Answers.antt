@@ -7,32 +7,28 @@ use Rattle.nona_stages.proofs.outer.+outer.Goals as goal
 
 pub add-add_all-requires : goal.add-add_all-requires
 add-add_all-requires t c =
-    let first = c.as_slice.result.now in
-    (
+    let first = c.as_slice.result.now in (
       search (rules, the_lemmas, c.decreases, c.in-If.is, c.as_slice.ensures),
       few_first (outer_all is_parallel first) _ _ (of_if is_parallel _ _ _ _ first _ c.in-If.is c.as_slice.ensures refl) c.requires,
     )
 
 pub add-add_all-requires-in-If : goal.add-add_all-requires-in-If
 add-add_all-requires-in-If t c =
-    let second = c.as_slice-in-If.result.now in
-    (
+    let second = c.as_slice-in-If.result.now in (
       search (rules, the_lemmas, c.decreases, c.in-If.is, c.as_slice-in-If.ensures),
       few_last _ (outer_all is_parallel second) _ (of_if is_parallel _ _ _ _ _ second c.in-If.is refl c.as_slice-in-If.ensures) c.requires,
     )
 
 pub add-add_all-requires-in-While : goal.add-add_all-requires-in-While
-add-add_all-requires-in-While t c =
-    (
-      search (rules, the_lemmas, c.decreases, c.in-While.is, c.as_slice-in-While.ensures),
-      subst AreFew (of_while is_parallel _ _ _ _ _ c.in-While.is c.as_slice-in-While.ensures) c.requires,
-    )
+add-add_all-requires-in-While t c = (
+  search (rules, the_lemmas, c.decreases, c.in-While.is, c.as_slice-in-While.ensures),
+  subst AreFew (of_while is_parallel _ _ _ _ _ c.in-While.is c.as_slice-in-While.ensures) c.requires,
+)
 
 pub add-add_all-requires-in-For : goal.add-add_all-requires-in-For
 add-add_all-requires-in-For t c =
     let l = c.in-For.looped in
-    let none = sym c.in_ok-region-in-For.ensures.region ∙ c.if-region.false in
-    (
+    let none = sym c.in_ok-region-in-For.ensures.region ∙ c.if-region.false in (
       search (rules, the_lemmas, c.decreases, c.in-For.is, c.as_slice-in-For.ensures),
       few_last (l ∷ []) _ _ (of_for is_parallel _ l _ c.in-For.is none c.as_slice-in-For.ensures) c.requires,
     )
