@@ -4,3 +4,4 @@ pub mod Outside
 pub mod Putting
 pub mod Reading
 pub mod Sending
+pub mod Numbered

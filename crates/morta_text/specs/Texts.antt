@@ -1,8 +1,9 @@
 -- The lines that a run writes. Each ends with LF.
-use Rattle.std.specs.Prelude.{ℕ, zero, suc, ◌+◌, ◌-◌, ◌==◌, if◌then◌else◌, ℤ, List, [], ◌∷◌, ◌++◌, length, None, Some, slice_get, codes}
+use Rattle.std.specs.Prelude.{ℕ, zero, suc, ◌-◌, ◌==◌, if◌then◌else◌, ℤ, List, [], ◌∷◌, ◌++◌, length, None, Some, slice_get, codes}
 use Rattle.std.specs.declared.option.Option.{Option}
 use Rattle.std.specs.Fmt.{decimal, signed_decimal}
 use Rattle.std.specs.List.{flat_map}
+use Rattle.fate_io.specs.Numbered.{texts_from}
 use Rattle.nona_tree.specs.declared.outcomes.Outcome.{Outcome}
 use Rattle.nona_tree.specs.declared.outcomes.Outcome.TheVariants as outcome
 use Rattle.nona_tree.specs.declared.outcomes.TrapKind.{TrapKind}
@@ -31,11 +32,6 @@ number_line n = signed_decimal n ++ 10 ∷ []
 -- the printed numbers, each on a line
 abbrev pub number_lines : List ℤ → List ℕ
 number_lines numbers = flat_map number_line numbers
-
--- what items give one after another, each by its number from this one on
-abbrev pub texts_from : {A : Type 0} → (ℕ → A → List ℕ) → ℕ → List A → List ℕ
-texts_from part number [] = []
-texts_from part number (x ∷ xs) = part number x ++ texts_from part (number + 1) xs
 
 -- the word for the kind of a trap
 abbrev pub trap_word : TrapKind → List ℕ

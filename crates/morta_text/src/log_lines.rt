@@ -1,7 +1,8 @@
 ghost use Rattle.std.specs.Prelude.{◌≡◌, ◌≤◌, ◌-◌, ◌==◌, if◌then◌else◌, [], ◌∷◌, ◌++◌, length, codes, IfOk, OnOk, slice_get, string_bytes};
 ghost use Rattle.std.specs.Fmt.{decimal};
 ghost use Rattle.fate_io.specs.Sending.{sent_since, Sends};
-ghost use Rattle.morta_text.specs.Texts.{texts_from, scheme_word, cut_word, config_text, work_text, interval_end, interval_line};
+ghost use Rattle.fate_io.specs.Numbered.{texts_from};
+ghost use Rattle.morta_text.specs.Texts.{scheme_word, cut_word, config_text, work_text, interval_end, interval_line};
 ghost use Rattle.morta_text.specs.Texts.{entry_line, entry_text, entry_before, entry_if_new, interval_text, intervals_line, log_text};
 
 use fate_io::{SendFault, Sink, send};

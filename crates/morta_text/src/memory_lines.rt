@@ -1,7 +1,8 @@
 ghost use Rattle.std.specs.Prelude.{◌≡◌, ◌<◌, ◌≤◌, ◌+◌, ◌^◌, length, IfOk, OnOk};
 ghost use Rattle.fate_io.specs.Sending.{sent_since, Sends};
 ghost use Rattle.nona_tree.specs.Value.{is_zero};
-ghost use Rattle.morta_text.specs.Texts.{texts_from, var_line, array_line, cell_line, cell_text, array_text, var_text, declared_text, memory_text};
+ghost use Rattle.fate_io.specs.Numbered.{texts_from};
+ghost use Rattle.morta_text.specs.Texts.{var_line, array_line, cell_line, cell_text, array_text, var_text, declared_text, memory_text};
 
 use crate::joining::join;
 use fate_io::{SendFault, Sink, send};

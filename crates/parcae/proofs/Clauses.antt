@@ -6,6 +6,7 @@ use Rattle.std.specs.Io.KnownBytes.{Appends}
 use Rattle.fate_io.specs.Sending.{Sent}
 use Rattle.nona_tree.specs.declared.trees.Program.{Program}
 use Rattle.nona_tree.specs.Run.{Ran, meaning_of}
+use Rattle.nona_gen.specs.OfSeen.{planned_image}
 use Rattle.morta_task.specs.Entries.{EntryView}
 use Rattle.morta_task.specs.LogView.{LogView}
 use Rattle.weave.specs.declared.script.Command.{Command as Order}
@@ -16,7 +17,7 @@ use Rattle.parcae.specs.declared.refusal.Refusal.TheVariants as refusal
 use Rattle.parcae.specs.declared.refusal.Source.{Source}
 use Rattle.parcae.specs.declared.refusal.Source.TheVariants as source
 use Rattle.parcae.specs.declared.status.Status.TheVariants as status
-use Rattle.parcae.specs.Words.{Task, Command, seq, replay}
+use Rattle.parcae.specs.Words.{Task, Command, seq, check, replay}
 use Rattle.fate_io.specs.Reading.{Held, Looked}
 use Rattle.fate_io.specs.Outside.{outside_of}
 use Rattle.parcae.specs.Codes.{code_of}
@@ -24,10 +25,10 @@ use Rattle.parcae.specs.Texts.{refusal_line}
 use Rattle.parcae.specs.Told.{Told, bare, logged, finished, IsBare}
 use Rattle.parcae.specs.Ends.{Whole, whole, write_failed, no_memory, unbegun}
 use Rattle.parcae.specs.Files.{limit_of, IsLong, failed, long, text, GivesProgram, GivesInput, GivesScript}
-use Rattle.parcae.specs.Due.{where_asked, replay_image, entries_in}
+use Rattle.parcae.specs.Due.{where_asked, entries_in}
 use Rattle.parcae.specs.Answers.{Answers, HoldsProgram, HoldsInput, HoldsScript}
-use Rattle.parcae.specs.Statuses.{OfEachCall, TellsFiles, IsBrokenOff, TellsUsage, HasFault, TellsFault, HasFailedRead, TellsFailedRead, TellsFailedWrite, HasLongFile, TellsLongFile, HasFullLog, TellsFullLog, IsWholeReplay, run_text, HasRunInSequence, HasReplayed, TellsMeaning}
-use Rattle.parcae.proofs.Telling.{seq_whole, DriveWhole, is_ran, is_full, drive_whole, ended_code, WholeBy, by_words, by_file, by_run, whole_by, runs_code, answered, says_of, refused_code, fault_code, text_code, bad_code, one_source, held_content}
+use Rattle.parcae.specs.Statuses.{OfEachCall, TellsFiles, IsBrokenOff, TellsUsage, HasFault, TellsFault, HasFailedRead, TellsFailedRead, TellsFailedWrite, HasLongFile, TellsLongFile, HasFullLog, TellsFullLog, IsWholeReplay, run_text, HasRunInSequence, HasReplayed, HasReported, TellsMeaning}
+use Rattle.parcae.proofs.Telling.{seq_whole, check_whole, DriveWhole, is_ran, is_full, drive_whole, ended_code, WholeBy, by_words, by_file, by_run, whole_by, runs_code, answered, says_of, refused_code, fault_code, text_code, bad_code, one_source, held_content}
 
 -- a run has none of the statuses between
 run_apart : (code n : ℕ) → (code ≤ 2) ⊎ (code ≡ 18) → 2 < n → n < 18 → code ≢ n
@@ -224,6 +225,10 @@ full_by (Some (seq task)) looked sent told added printed later e sends (by_run (
     let w = seq_whole tree (meaning_of tree numbers task.turns) task.memory _ told printed later d refl in
     let low : code_of told.status ≤ 2 = subst (λ (t : Told). code_of t.status ≤ 2) (sym w.0) (ended_code (meaning_of tree numbers task.turns).end) in
     absurd (omega (arith, e, low))
+full_by (Some (check file)) looked sent told added printed later e sends (by_run (tree, g, d)) =
+    let w = check_whole tree _ told printed later d refl in
+    let is : code_of told.status ≡ 0 = ap (λ (t : Told). code_of t.status) w.0 in
+    absurd (omega (arith, e, is))
 full_by (Some (replay task script log)) looked sent told added printed later e sends (by_run (tree, numbers, commands, g, h, k, d)) =
     full_drive _ _ _ _ _ _ sent told printed later e sends (drive_whole _ _ _ _ _ _ _ told printed later d refl)
 
@@ -260,11 +265,26 @@ seq_by task looked sent told added printed later tells le sends (by_run (tree, n
       text = subst (λ (t : List ℕ). Appends sent.before sent.after t) (rw (w.1, w.2) refl) sends;
     }
 
+-- 0 of the report on loops
+check_by : (file : List ℕ) (looked : Looked) (sent : Sent) (told : Told) (added : List (List ℕ)) (printed later : List ℕ)
+    → TellsFiles looked → code_of told.status ≤ 2 → Appends sent.before sent.after (printed ++ later)
+    → WholeBy (Some (check file)) looked added told printed later → HasReported file looked sent told
+check_by file looked sent told added printed later tells le sends (by_words none w) = absurd (omega (arith, le, words_code told printed later w))
+check_by file looked sent told added printed later tells le sends (by_file s f r names bad w) =
+    absurd (omega (arith, le, refused_code r told printed later w, (bad_code s (outside_of looked) f added r bad).0))
+check_by file looked sent told added printed later tells le sends (by_run (tree, g, d)) =
+    let w = check_whole tree _ told printed later d refl in record {
+      tree = tree;
+      program = holds_program looked file tree tells g;
+      report = w.0;
+      text = subst (λ (t : List ℕ). Appends sent.before sent.after t) (rw (w.1, w.2) refl) sends;
+    }
+
 -- the same of a run in intervals
 drive_by : (task : Task) (script : List ℕ) (log : Bool) (looked : Looked) (sent : Sent) (told : Told) (printed later : List ℕ) (tree : Program) (numbers : List ℤ) (commands : List Order)
     → code_of told.status ≤ 2 → Appends sent.before sent.after (printed ++ later)
     → HoldsProgram looked task.file tree → HoldsInput looked task.input numbers → HoldsScript looked script commands
-    → DriveWhole tree (entries_in (replay_image tree) tree numbers task.turns) (meaning_of tree numbers task.turns) (IsScriptReplay CAPACITY commands (entries_in (replay_image tree) tree numbers task.turns)) task.memory log told printed later
+    → DriveWhole tree (entries_in (planned_image tree) tree numbers task.turns) (meaning_of tree numbers task.turns) (IsScriptReplay CAPACITY commands (entries_in (planned_image tree) tree numbers task.turns)) task.memory log told printed later
     → HasReplayed task script log looked sent told
 drive_by task script log looked sent told printed later tree numbers commands le sends program input orders (is_ran l s ends er ep el) =
     let ran = meaning_of tree numbers task.turns in
@@ -275,7 +295,7 @@ drive_by task script log looked sent told printed later tree numbers commands le
       program = program;
       input = input;
       orders = orders;
-      replay = subst (λ (x : LogView). IsWholeReplay commands (entries_in (replay_image tree) tree numbers task.turns) x) el2
+      replay = subst (λ (x : LogView). IsWholeReplay commands (entries_in (planned_image tree) tree numbers task.turns) x) el2
           (record { whole = record { legal = s.legal; ended = ends }; replayed = s.replayed });
       report = er ∙ ap (finished ran) el2;
       text = subst (λ (x : LogView). Appends sent.before sent.after (run_text tree ran task.memory (where_asked log (log_text x)))) el2
@@ -307,6 +327,9 @@ tells_meaning None looked sent told answers = no_meaning looked sent told (usage
 tells_meaning (Some (seq task)) looked sent told answers = λ tells le.
     let a = answered (Some (seq task)) looked sent told (λ f. omega (arith, le, f)) (λ f. omega (arith, le, f)) answers in
     seq_by task looked sent told a.added a.printed a.later tells le a.sends a.by
+tells_meaning (Some (check file)) looked sent told answers = λ tells le.
+    let a = answered (Some (check file)) looked sent told (λ f. omega (arith, le, f)) (λ f. omega (arith, le, f)) answers in
+    check_by file looked sent told a.added a.printed a.later tells le a.sends a.by
 tells_meaning (Some (replay task script log)) looked sent told answers = λ tells le.
     let a = answered (Some (replay task script log)) looked sent told (λ f. omega (arith, le, f)) (λ f. omega (arith, le, f)) answers in
     replay_by task script log looked sent told a.added a.printed a.later tells le a.sends a.by

@@ -15,14 +15,14 @@ use Rattle.parcae.specs.declared.refusal.Refusal.{Refusal}
 use Rattle.parcae.specs.declared.refusal.Source.{Source}
 use Rattle.parcae.specs.declared.refusal.Source.TheVariants as source
 use Rattle.parcae.specs.declared.status.Status.TheVariants.{NoMemory}
-use Rattle.parcae.specs.Words.{Task, Command, seq, replay}
+use Rattle.parcae.specs.Words.{Task, Command, seq, check, replay}
 use Rattle.parcae.specs.Told.{Told}
 use Rattle.parcae.specs.Accepted.{IsAccepted}
 use Rattle.fate_io.specs.Reading.{Held, Looked}
 use Rattle.fate_io.specs.Outside.{Outside, outside_of}
 use Rattle.parcae.specs.Ends.{Way, Whole, Unbegun, Ends, whole, write_failed, no_memory, unbegun}
 use Rattle.parcae.specs.Files.{limit_of, IsContent, IsLong, Refuses, IsBad, failed, long, text, RefusesInput, input_token, input_count, RefusesScript, script_line, GivesProgram, GivesInput, NoInput, GivesScript, DueOf, stops, starves, follows}
-use Rattle.parcae.specs.Due.{DueOfSeq, DueOfReplay, DueOfCommand}
+use Rattle.parcae.specs.Due.{DueOfSeq, DueOfCheck, DueOfReplay, DueOfCommand}
 use Rattle.parcae.specs.Answers.{Answers, HoldsProgram, HoldsInput, HoldsScript, EndsWhole, IsComplete}
 use Rattle.parcae.proofs.Accepting.{one_accepted, not_refused}
 
@@ -123,6 +123,13 @@ seq_due one task looked tree numbers added way none program inputs apart due =
     due_follows _ _ _ added way numbers (never_input looked task.input numbers added none inputs) (only_input looked task.input numbers inputs) apart
     (due_follows _ _ _ added way tree (never_program looked task.file tree added one none program) (only_program looked task.file tree one program) apart due)
 
+-- what is due of the report on the loops of a held program, where no read failed
+pub check_due : ((bytes : List ℕ) → One bytes) → (file : List ℕ) (looked : Looked) (tree : Program) (added : List (List ℕ)) (way : Way)
+    → added ≡ [] → HoldsProgram looked file tree → way ≢ Unbegun empty_log
+    → DueOfCommand (outside_of looked) (Some (check file)) added way → (added ≡ []) × DueOfCheck tree way
+check_due one file looked tree added way none program apart due =
+    due_follows _ _ _ added way tree (never_program looked file tree added one none program) (only_program looked file tree one program) apart due
+
 -- what is due of a replay of held files, where no read failed
 pub replay_due : ((bytes : List ℕ) → One bytes) → (task : Task) (script : List ℕ) (log : Bool) (looked : Looked) (tree : Program) (numbers : List ℤ) (commands : List Order) (added : List (List ℕ)) (way : Way)
     → added ≡ [] → HoldsProgram looked task.file tree → HoldsInput looked task.input numbers → HoldsScript looked script commands → way ≢ Unbegun empty_log
@@ -144,6 +151,11 @@ completes one (Some (seq task)) looked sent told (added, grown, e) = λ tree num
     let none : added ≡ [] = none_added looked.failed_before added (sym calm.reads ∙ grown) in
     let w = ends_whole _ sent told calm.puts calm.memory e in
     let ran = seq_due one task looked tree numbers added _ none program inputs (whole_apart told w.0 w.1 empty_log) w.2 in
+    (w.0, w.1, ran.1, w.3)
+completes one (Some (check file)) looked sent told (added, grown, e) = λ tree program calm.
+    let none : added ≡ [] = none_added looked.failed_before added (sym calm.reads ∙ grown) in
+    let w = ends_whole _ sent told calm.puts calm.memory e in
+    let ran = check_due one file looked tree added _ none program (whole_apart told w.0 w.1 empty_log) w.2 in
     (w.0, w.1, ran.1, w.3)
 completes one (Some (replay task script log)) looked sent told (added, grown, e) = λ tree numbers commands program inputs scripts calm.
     let none : added ≡ [] = none_added looked.failed_before added (sym calm.reads ∙ grown) in

@@ -1,5 +1,5 @@
 -- What is told of a call that was broken off, by what was written.
-use Rattle.std.proofs.Common.{◌≡◌, ◌≢◌, ◌⊎◌, ℕ, ◌≤◌, Bool, ℤ, List, [], ◌++◌, length, length-append, ap, sym, refl, ◌∙◌, None, Some, inl, inr, arith}
+use Rattle.std.proofs.Common.{◌≡◌, ◌≢◌, ◌⊎◌, ℕ, ◌≤◌, Bool, ℤ, List, [], ◌++◌, length, length-append, ap, sym, refl, ◌∙◌, subst, None, Some, inl, inr, arith}
 use Rattle.std.proofs.lemmas.List.{append_cancel_left}
 use Rattle.std.proofs.lemmas.List.Concat.{flat_map-append}
 use Rattle.std.specs.declared.option.Option.{Option}
@@ -12,19 +12,23 @@ use Rattle.nona_tree.specs.Memory.{Extends}
 use Rattle.nona_tree.specs.Run.{Ran, meaning_of}
 use Rattle.morta_task.specs.Entries.{EntryView}
 use Rattle.morta_task.specs.LogView.{LogView, empty_log}
+use Rattle.nona_stages.specs.Seen.{seen_of}
+use Rattle.nona_report.specs.Report.{report_text}
 use Rattle.morta_text.specs.Texts.{number_line, number_lines}
 use Rattle.morta_exec.specs.Places.{most}
 use Rattle.parcae.specs.declared.refusal.Refusal.TheVariants as refusal
+use Rattle.parcae.specs.declared.status.Status.{Status}
 use Rattle.parcae.specs.declared.status.Status.TheVariants as status
-use Rattle.parcae.specs.Words.{seq, replay}
-use Rattle.parcae.specs.Texts.{refusal_line}
+use Rattle.parcae.specs.Words.{seq, check, replay}
+use Rattle.parcae.specs.Texts.{refusal_line, refusal_status}
 use Rattle.parcae.specs.Told.{Told, bare, finished, IsBare, Keeps}
 use Rattle.parcae.specs.Ends.{Way, Whole, Early, Unbegun, Breaks, within, behind, whole, write_failed, no_memory, unbegun}
-use Rattle.parcae.specs.Due.{DueOfSeq, seq_ran, seq_broken, seq_unbegun, DueOfDrive, drive_ran, drive_full, drive_broken, drive_unbegun, DueOfCommand}
-use Rattle.parcae.specs.Answers.{Answers}
-use Rattle.parcae.specs.Statuses.{OfEachCall, IsCutBy, TellsFront}
-use Rattle.parcae.proofs.Completing.{One, none_added, seq_due, replay_due, whole_apart}
-use Rattle.parcae.proofs.Telling.{seq_whole, DriveWhole, is_ran, is_full, drive_whole, whole_by}
+use Rattle.parcae.specs.Due.{DueOfSeq, seq_ran, seq_broken, seq_unbegun, DueOfCheck, check_ran, check_unbegun, DueOfDrive, drive_ran, drive_full, drive_broken, drive_unbegun, DueOfCommand}
+use Rattle.parcae.specs.Files.{stops, starves, follows}
+use Rattle.parcae.specs.Answers.{Answers, HoldsProgram}
+use Rattle.parcae.specs.Statuses.{OfEachCall, IsCut, IsCutBy, IsFront, TellsFront}
+use Rattle.parcae.proofs.Completing.{One, none_added, seq_due, check_due, replay_due, whole_apart}
+use Rattle.parcae.proofs.Telling.{seq_whole, check_whole, DriveWhole, is_ran, is_full, drive_whole, whole_by}
 use Rattle.parcae.proofs.Clauses.{whole_code}
 
 -- the bytes that were written, where the sink tells them
@@ -137,6 +141,67 @@ none_front looked sent told (added, grown, write_failed e b rose) = usage_front 
 none_front looked sent told (added, grown, no_memory e b) = usage_front looked sent told added b
 none_front looked sent told (added, grown, unbegun e d h b) = b
 
+-- a report that is kept and tells neither
+kept_bare : (report told : Told) → IsBare report → Keeps report told → IsBare told
+kept_bare report told b k = record { outcome = k.outcome ∙ b.outcome; store = k.store ∙ b.store }
+
+-- nothing but a status tells neither
+status_bare : (s : Status) → IsBare (bare s)
+status_bare s = record { outcome = refl; store = refl }
+
+-- neither is told of the report on loops
+check_bare : (file : List ℕ) (looked : Looked) (added : List (List ℕ)) (report : Told) (printed later : List ℕ)
+    → DueOfCommand (outside_of looked) (Some (check file)) added (Whole report printed later) → IsBare report
+check_bare file looked added report printed later (stops r bad w) =
+    let is : report ≡ bare (refusal_status r) = cc in
+    subst IsBare (sym is) (status_bare (refusal_status r))
+check_bare file looked added report printed later (starves e w) = absurd (whole_apart report printed later empty_log w)
+check_bare file looked added report printed later (follows tree g (e, d)) =
+    subst IsBare (sym (check_whole tree _ report printed later d refl).0) (status_bare status.Done)
+
+check_breaks : (file : List ℕ) (looked : Looked) (sent : Sent) (told : Told) (added : List (List ℕ))
+    → Breaks (DueOfCommand (outside_of looked) (Some (check file)) added) sent told → IsBare told
+check_breaks file looked sent told added (within p w r d e h b) = b
+check_breaks file looked sent told added (behind x p l w r d e h k) = kept_bare x told (check_bare file looked added x p l d) k
+
+check_answer : (file : List ℕ) (looked : Looked) (sent : Sent) (told : Told) → Answers (Some (check file)) looked sent told → IsBare told
+check_answer file looked sent told (added, grown, whole p l d h) = check_bare file looked added told p l d
+check_answer file looked sent told (added, grown, write_failed e b rose) = check_breaks file looked sent told added b
+check_answer file looked sent told (added, grown, no_memory e b) = check_breaks file looked sent told added b
+check_answer file looked sent told (added, grown, unbegun e d h b) = b
+
+-- the report on loops is not due early
+check_early : (tree : Program) (way : Way) (log : LogView) (printed : List ℕ) → DueOfCheck tree way → way ≢ Early log printed
+check_early tree way log printed check_ran e = cc
+check_early tree way log printed check_unbegun e = cc
+
+-- the report on loops was broken off
+check_cut : (tree : Program) (sent : Sent) (told : Told) (front written : List ℕ)
+    → sent.before ≡ Some front → sent.after ≡ Some (front ++ written) → Breaks (DueOfCheck tree) sent told → IsFront written (report_text (seen_of tree))
+check_cut tree sent told front written eb ea (within printed w rest d e h b) = absurd (check_early tree _ told.log printed d refl)
+check_cut tree sent told front written eb ea (behind report printed later w rest d e h k) =
+    let is = check_whole tree _ report printed later d refl in
+    let same : written ≡ printed ++ w = same_written sent.before sent.after front written (printed ++ w) eb ea h in
+    let alone : written ≡ w = same ∙ ap (λ (l : List ℕ). l ++ w) is.1 in
+    (rest, sym is.2 ∙ e ∙ ap (λ (l : List ℕ). l ++ rest) (sym alone))
+
+check_front : ((bytes : List ℕ) → One bytes) → (file : List ℕ) (looked : Looked) (sent : Sent) (told : Told) (tree : Program) (written : List ℕ)
+    → HoldsProgram looked file tree → IsCut looked sent told written → Answers (Some (check file)) looked sent told
+    → IsFront written (report_text (seen_of tree))
+check_front one file looked sent told tree written program cut (added, grown, whole p l d h) =
+    absurd (whole_code (Some (check file)) looked added told p l (whole_by (Some (check file)) looked added told p l d) cut.broken)
+check_front one file looked sent told tree written program cut (added, grown, write_failed e b rose) =
+    let none : added ≡ [] = none_added looked.failed_before added (sym cut.reads ∙ grown) in
+    check_cut tree sent told cut.front written cut.before cut.after
+    (breaks_due _ _ (λ way apart d. (check_due one file looked tree added way none program apart d).1) sent told b)
+check_front one file looked sent told tree written program cut (added, grown, no_memory e b) =
+    let none : added ≡ [] = none_added looked.failed_before added (sym cut.reads ∙ grown) in
+    check_cut tree sent told cut.front written cut.before cut.after
+    (breaks_due _ _ (λ way apart d. (check_due one file looked tree added way none program apart d).1) sent told b)
+check_front one file looked sent told tree written program cut (added, grown, unbegun e d h b) =
+    let same : written ≡ [] = same_written sent.before sent.after cut.front written [] cut.before cut.after h in
+    (report_text (seen_of tree), ap (λ (l : List ℕ). l ++ report_text (seen_of tree)) (sym same))
+
 -- after 15 and 16
 pub tells_front : ((bytes : List ℕ) → One bytes) → OfEachCall TellsFront
 tells_front one None looked sent told answers = none_front looked sent told answers
@@ -152,6 +217,8 @@ tells_front one (Some (seq task)) looked sent told (added, grown, no_memory e b)
     (breaks_due _ _ (λ way apart d. (seq_due one task looked tree numbers added way none program inputs apart d).1) sent told b)
 tells_front one (Some (seq task)) looked sent told (added, grown, unbegun e d h b) = λ tree numbers written program inputs cut.
     cut_before (meaning_of tree numbers task.turns) sent told cut.front written cut.before cut.after h b
+tells_front one (Some (check file)) looked sent told answers =
+    (check_answer file looked sent told answers, λ tree written program cut. check_front one file looked sent told tree written program cut answers)
 tells_front one (Some (replay task script log)) looked sent told (added, grown, whole p l d h) = λ tree numbers commands written program inputs scripts cut.
     absurd (whole_code (Some (replay task script log)) looked added told p l (whole_by (Some (replay task script log)) looked added told p l d) cut.broken)
 tells_front one (Some (replay task script log)) looked sent told (added, grown, write_failed e b rose) = λ tree numbers commands written program inputs scripts cut.

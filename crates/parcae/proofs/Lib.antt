@@ -7,3 +7,4 @@ pub mod Replaying
 pub mod Telling
 pub mod Clauses
 pub mod Fronting
+pub mod Found

@@ -13,6 +13,8 @@ use Rattle.morta_task.specs.Entries.{EntryView}
 use Rattle.morta_task.specs.LogView.{LogView, empty_log}
 use Rattle.morta_task.specs.Legal.{EndsAll, last_in}
 use Rattle.weave.specs.declared.script.Command.{Command as Order}
+use Rattle.nona_stages.specs.Seen.{seen_of}
+use Rattle.nona_report.specs.Report.{report_text}
 use Rattle.morta_text.specs.Texts.{number_lines, log_text}
 use Rattle.morta_exec.specs.Places.{most}
 use Rattle.parcae.specs.declared.refusal.Refusal.{Refusal}
@@ -20,7 +22,7 @@ use Rattle.parcae.specs.declared.refusal.Refusal.TheVariants as refusal
 use Rattle.parcae.specs.declared.refusal.Source.{Source}
 use Rattle.parcae.specs.declared.refusal.Source.TheVariants as source
 use Rattle.parcae.specs.declared.status.Status.TheVariants as status
-use Rattle.parcae.specs.Words.{Command, seq, replay}
+use Rattle.parcae.specs.Words.{Command, seq, check, replay}
 use Rattle.fate_io.specs.Reading.{Held, Looked}
 use Rattle.fate_io.specs.Outside.{Outside, outside_of}
 use Rattle.parcae.specs.Codes.{code_of}
@@ -28,7 +30,7 @@ use Rattle.parcae.specs.Texts.{refusal_line, refusal_status, full_line}
 use Rattle.parcae.specs.Told.{Told, bare, logged, finished, status_of}
 use Rattle.parcae.specs.Ends.{Way, Whole, Unbegun, Ends, whole, write_failed, no_memory, unbegun}
 use Rattle.parcae.specs.Files.{IsContent, IsBad, failed, long, text, Refuses, program_text, input_token, input_count, script_line, GivesProgram, GivesInput, NoInput, GivesScript, stops, starves, follows}
-use Rattle.parcae.specs.Due.{where_asked, behind_numbers, DueOfReplay, DueOfSeq, seq_ran, seq_broken, seq_unbegun, DueOfDrive, drive_ran, drive_full, drive_broken, drive_unbegun, DueOfCommand}
+use Rattle.parcae.specs.Due.{where_asked, behind_numbers, DueOfReplay, DueOfSeq, seq_ran, seq_broken, seq_unbegun, DueOfCheck, check_ran, check_unbegun, DueOfDrive, drive_ran, drive_full, drive_broken, drive_unbegun, DueOfCommand}
 use Rattle.parcae.specs.Answers.{Answers, EndsWhole}
 use Rattle.parcae.specs.Statuses.{named, Says}
 
@@ -39,6 +41,12 @@ pub seq_whole : (tree : Program) (ran : Ran) (memory : Bool) (way : Way) (report
 seq_whole tree ran memory way report printed later seq_ran e = (cc, cc, cc)
 seq_whole tree ran memory way report printed later seq_broken e = cc
 seq_whole tree ran memory way report printed later seq_unbegun e = cc
+
+-- what is due of the report on the loops of a program is whole only as that report
+pub check_whole : (tree : Program) (way : Way) (report : Told) (printed later : List ℕ) → DueOfCheck tree way → way ≡ Whole report printed later
+    → (report ≡ bare status.Done) × (printed ≡ []) × (later ≡ report_text (seen_of tree))
+check_whole tree way report printed later check_ran e = (cc, cc, cc)
+check_whole tree way report printed later check_unbegun e = cc
 
 -- what is due of a run in intervals is whole as its meaning, with its whole log, or as the line of a full log
 pub data DriveWhole (tree : Program) (es : List EntryView) (ran : Ran) (stands : LogView → Type 0) (memory log : Bool) (report : Told) (printed later : List ℕ) : Type 0 where
@@ -60,6 +68,8 @@ Runs looked report printed later None = ⊥
 Runs looked report printed later (Some (seq task)) =
     (tree : Program) × (numbers : List ℤ) × GivesProgram (outside_of looked) task.file tree × GivesInput (outside_of looked) task.input numbers
     × DueOfSeq tree (meaning_of tree numbers task.turns) task.memory (Whole report printed later)
+Runs looked report printed later (Some (check file)) =
+    (tree : Program) × GivesProgram (outside_of looked) file tree × DueOfCheck tree (Whole report printed later)
 Runs looked report printed later (Some (replay task script log)) =
     (tree : Program) × (numbers : List ℤ) × (commands : List Order) × GivesProgram (outside_of looked) task.file tree × GivesInput (outside_of looked) task.input numbers
     × GivesScript (outside_of looked) script commands
@@ -90,6 +100,9 @@ whole_by (Some (seq task)) looked added report printed later (follows tree g (st
     let b = bad_input task.input (outside_of looked) added r bad in by_file source.Input b.0 r b.1 b.2 w
 whole_by (Some (seq task)) looked added report printed later (follows tree g (starves e w)) = absurd (whole_apart report printed later w)
 whole_by (Some (seq task)) looked added report printed later (follows tree g (follows numbers h (e, d))) = by_run (tree, numbers, g, h, d)
+whole_by (Some (check file)) looked added report printed later (stops r bad w) = by_file source.Program file r refl bad w
+whole_by (Some (check file)) looked added report printed later (starves e w) = absurd (whole_apart report printed later w)
+whole_by (Some (check file)) looked added report printed later (follows tree g (e, d)) = by_run (tree, g, d)
 whole_by (Some (replay task script log)) looked added report printed later (stops r bad w) = by_file source.Program task.file r refl bad w
 whole_by (Some (replay task script log)) looked added report printed later (starves e w) = absurd (whole_apart report printed later w)
 whole_by (Some (replay task script log)) looked added report printed later (follows tree g (stops r bad w)) =
@@ -120,6 +133,10 @@ runs_code None looked report printed later runs = absurd runs
 runs_code (Some (seq task)) looked report printed later (tree, numbers, g, h, d) =
     let w = seq_whole tree (meaning_of tree numbers task.turns) task.memory _ report printed later d refl in
     inl (subst (λ (t : Told). code_of t.status ≤ 2) (sym w.0) (ended_code (meaning_of tree numbers task.turns).end))
+runs_code (Some (check file)) looked report printed later (tree, g, d) =
+    let w = check_whole tree _ report printed later d refl in
+    let is : code_of report.status ≡ 0 = ap (λ (t : Told). code_of t.status) w.0 in
+    inl (omega (arith, is))
 runs_code (Some (replay task script log)) looked report printed later (tree, numbers, commands, g, h, k, d) =
     drive_code _ _ _ _ _ _ report printed later (drive_whole _ _ _ _ _ _ _ report printed later d refl)
 

@@ -12,14 +12,14 @@ use Rattle.morta_script.specs.Lines.{commands_of}
 use Rattle.parcae.specs.declared.refusal.Source.{Source}
 use Rattle.parcae.specs.declared.refusal.Source.TheVariants as source
 use Rattle.parcae.specs.declared.status.Status.TheVariants.{NoMemory}
-use Rattle.parcae.specs.Words.{Command, seq, replay}
+use Rattle.parcae.specs.Words.{Command, seq, check, replay}
 use Rattle.parcae.specs.Told.{Told}
 use Rattle.parcae.specs.Accepted.{IsAccepted}
 use Rattle.parcae.specs.Ends.{Way, Whole, Ends}
 use Rattle.fate_io.specs.Reading.{Looked}
 use Rattle.fate_io.specs.Outside.{outside_of}
 use Rattle.parcae.specs.Files.{limit_of}
-use Rattle.parcae.specs.Due.{DueOfCommand, DueOfSeq, DueOfReplay}
+use Rattle.parcae.specs.Due.{DueOfCommand, DueOfSeq, DueOfCheck, DueOfReplay}
 
 -- a command's call ends as is due of it, with the names that it adds to those of failed reads
 abbrev pub Answers : Option Command → Looked → Sent → Told → Type 0
@@ -56,12 +56,14 @@ EndsWhole due sent told =
     (printed later : List ℕ) × due (Whole told printed later) × Appends sent.before sent.after (printed ++ later)
 
 -- A command whose files are held within their limits, with an accepted program, an input and a script, ends with what is due
--- of its run, whole, where nothing outside failed.
+-- of its run, or of the report on its loops, whole, where nothing outside failed.
 abbrev pub IsComplete : Option Command → Looked → Sent → Told → Type 0
 IsComplete None looked sent told = Unit {0}
 IsComplete (Some (seq task)) looked sent told =
     (tree : Program) (numbers : List ℤ) → HoldsProgram looked task.file tree → HoldsInput looked task.input numbers
     → IsCalm looked sent told → EndsWhole (DueOfSeq tree (meaning_of tree numbers task.turns) task.memory) sent told
+IsComplete (Some (check file)) looked sent told =
+    (tree : Program) → HoldsProgram looked file tree → IsCalm looked sent told → EndsWhole (DueOfCheck tree) sent told
 IsComplete (Some (replay task script log)) looked sent told =
     (tree : Program) (numbers : List ℤ) (commands : List Order) → HoldsProgram looked task.file tree → HoldsInput looked task.input numbers
     → HoldsScript looked script commands → IsCalm looked sent told → EndsWhole (DueOfReplay tree numbers commands task.turns task.memory log) sent told

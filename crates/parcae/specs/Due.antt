@@ -6,21 +6,23 @@ use Rattle.nona_tree.specs.Memory.{Memory, Extends}
 use Rattle.nona_tree.specs.Run.{Ran, start_of, meaning_of}
 use Rattle.morta_task.specs.Entries.{EntryView, entries_of}
 use Rattle.morta_task.specs.ImageView.{ImageView}
-use Rattle.morta_task.specs.InSequence.{image_in_sequence, places_in}
+use Rattle.nona_gen.specs.OfSeen.{planned_image}
 use Rattle.morta_task.specs.LogView.{LogView, empty_log}
 use Rattle.morta_task.specs.Legal.{EndsAll, last_in}
 use Rattle.weave.specs.declared.script.Command.{Command as Order}
 use Rattle.weave.specs.Replay.{IsScriptReplay}
 use Rattle.parcae.specs.declared.replays.TheConstants.{CAPACITY}
+use Rattle.nona_stages.specs.Seen.{seen_of}
+use Rattle.nona_report.specs.Report.{report_text}
 use Rattle.morta_text.specs.Texts.{number_lines, outcome_text, memory_text, log_text}
 use Rattle.morta_exec.specs.Places.{most, IsBehind, StartsNext}
 use Rattle.parcae.specs.declared.refusal.Refusal.TheVariants.{Usage}
 use Rattle.parcae.specs.declared.refusal.Source.TheVariants as source
 use Rattle.parcae.specs.declared.status.Status.TheVariants as status
-use Rattle.parcae.specs.Words.{Command, seq, replay}
+use Rattle.parcae.specs.Words.{Command, seq, check, replay}
 use Rattle.fate_io.specs.Outside.{Outside}
 use Rattle.parcae.specs.Texts.{full_line}
-use Rattle.parcae.specs.Told.{logged, finished}
+use Rattle.parcae.specs.Told.{bare, logged, finished}
 use Rattle.parcae.specs.Ends.{Way, Whole, Early, Unbegun}
 use Rattle.parcae.specs.Files.{DueOf, IsBad, GivesProgram, GivesInput, NoInput, GivesScript, refusing}
 
@@ -53,10 +55,6 @@ pub data DueOfDrive (tree : Program) (es : List EntryView) (ran : Ran) (stands :
       → Extends m.printed ran.store.printed → DueOfDrive tree es ran stands memory log (Early l (number_lines m.printed))
   drive_unbegun : DueOfDrive tree es ran stands memory log (Unbegun empty_log)
 
--- a program as a replay runs it: its regions are all loops that may run in other versions, and none has another yet
-abbrev pub replay_image : Program → ImageView
-replay_image tree = image_in_sequence tree (places_in tree)
-
 -- the entries of the run of an image of a program over an input
 abbrev pub entries_in : ImageView → Program → List ℤ → ℕ → List EntryView
 entries_in image tree numbers turns = entries_of image turns (start_of tree numbers)
@@ -64,8 +62,13 @@ entries_in image tree numbers turns = entries_of image turns (start_of tree numb
 -- what is due of the replay of a script over a program and an input: the log stands where it is that of the replay
 abbrev pub DueOfReplay : Program → List ℤ → List Order → ℕ → Bool → Bool → Way → Type 0
 DueOfReplay tree numbers commands turns =
-    DueOfDrive tree (entries_in (replay_image tree) tree numbers turns) (meaning_of tree numbers turns)
-    (IsScriptReplay CAPACITY commands (entries_in (replay_image tree) tree numbers turns))
+    DueOfDrive tree (entries_in (planned_image tree) tree numbers turns) (meaning_of tree numbers turns)
+    (IsScriptReplay CAPACITY commands (entries_in (planned_image tree) tree numbers turns))
+
+-- what is due of the report on the loops of a program: the whole report, of which nothing but a status is told
+pub data DueOfCheck (tree : Program) : Way → Type 0 where
+  check_ran : DueOfCheck tree (Whole (bare status.Done) [] (report_text (seen_of tree)))
+  check_unbegun : DueOfCheck tree (Unbegun empty_log)
 
 -- all files were read, and none of the reads failed
 abbrev pub AllRead : (Way → Type 0) → List (List ℕ) → Way → Type 0
@@ -78,6 +81,8 @@ DueOfCommand outside (Some (seq task)) added way =
     DueOf (IsBad source.Program outside task.file) (GivesProgram outside task.file) (λ tree.
     DueOf (NoInput outside task.input) (GivesInput outside task.input) (λ numbers.
     AllRead (DueOfSeq tree (meaning_of tree numbers task.turns) task.memory))) added way
+DueOfCommand outside (Some (check file)) added way =
+    DueOf (IsBad source.Program outside file) (GivesProgram outside file) (λ tree. AllRead (DueOfCheck tree)) added way
 DueOfCommand outside (Some (replay task script log)) added way =
     DueOf (IsBad source.Program outside task.file) (GivesProgram outside task.file) (λ tree.
     DueOf (NoInput outside task.input) (GivesInput outside task.input) (λ numbers.

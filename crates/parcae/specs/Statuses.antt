@@ -6,25 +6,29 @@ use Rattle.fate_io.specs.Causes.{Rose}
 use Rattle.fate_io.specs.Sending.{Sent}
 use Rattle.nona_tree.specs.declared.trees.Program.{Program}
 use Rattle.nona_tree.specs.Run.{Ran, meaning_of}
+use Rattle.nona_gen.specs.OfSeen.{planned_image}
 use Rattle.morta_task.specs.LogView.{LogView, empty_log}
 use Rattle.morta_task.specs.Entries.{EntryView}
 use Rattle.morta_task.specs.Legal.{IsWholeLog}
 use Rattle.weave.specs.declared.script.Command.{Command as Order}
 use Rattle.weave.specs.Replay.{script_asks, IsReplayOf}
 use Rattle.parcae.specs.declared.replays.TheConstants.{CAPACITY}
+use Rattle.nona_stages.specs.Seen.{seen_of}
+use Rattle.nona_report.specs.Report.{report_text}
 use Rattle.morta_text.specs.Texts.{number_lines, log_text}
 use Rattle.morta_exec.specs.Places.{most}
 use Rattle.parcae.specs.declared.refusal.Source.{Source}
 use Rattle.parcae.specs.declared.refusal.Source.TheVariants as source
 use Rattle.parcae.specs.declared.refusal.Refusal.{Refusal}
 use Rattle.parcae.specs.declared.refusal.Refusal.TheVariants as refusal
-use Rattle.parcae.specs.Words.{Task, Command, seq, replay}
+use Rattle.parcae.specs.declared.status.Status.TheVariants as status
+use Rattle.parcae.specs.Words.{Task, Command, seq, check, replay}
 use Rattle.parcae.specs.Codes.{code_of}
 use Rattle.fate_io.specs.Reading.{Looked}
 use Rattle.parcae.specs.Texts.{refusal_line, refusal_status, full_line}
 use Rattle.parcae.specs.Told.{Told, bare, finished, IsBare}
 use Rattle.parcae.specs.Files.{limit_of, Refuses}
-use Rattle.parcae.specs.Due.{where_asked, behind_numbers, replay_image, entries_in}
+use Rattle.parcae.specs.Due.{where_asked, behind_numbers, entries_in}
 use Rattle.parcae.specs.Answers.{Answers, Holds, HoldsProgram, HoldsInput, HoldsScript}
 
 -- a statement is true of each call that answers
@@ -41,6 +45,9 @@ named None source = None
 named (Some (seq task)) source.Program = Some task.file
 named (Some (seq task)) source.Input = task.input
 named (Some (seq task)) source.Script = None
+named (Some (check file)) source.Program = Some file
+named (Some (check file)) source.Input = None
+named (Some (check file)) source.Script = None
 named (Some (replay task script log)) source.Program = Some task.file
 named (Some (replay task script log)) source.Input = task.input
 named (Some (replay task script log)) source.Script = Some script
@@ -143,14 +150,22 @@ pub record HasReplayed (task : Task) (script : List ℕ) (log : Bool) (looked : 
   pub program : HoldsProgram looked task.file tree
   pub input : HoldsInput looked task.input numbers
   pub orders : HoldsScript looked script commands
-  pub replay : IsWholeReplay commands (entries_in (replay_image tree) tree numbers task.turns) told.log
+  pub replay : IsWholeReplay commands (entries_in (planned_image tree) tree numbers task.turns) told.log
   pub report : told ≡ finished (meaning_of tree numbers task.turns) told.log
   pub text : Appends sent.before sent.after (run_text tree (meaning_of tree numbers task.turns) task.memory (where_asked log (log_text told.log)))
 
--- 0, 1 and 2 come with the sequential meaning of the program, and only of a command
+-- The loops of a program were reported on: it is held, nothing but the status 0 is told, and exactly the report was written.
+pub record HasReported (file : List ℕ) (looked : Looked) (sent : Sent) (told : Told) : Type 0 where
+  pub tree : Program
+  pub program : HoldsProgram looked file tree
+  pub report : told ≡ bare status.Done
+  pub text : Appends sent.before sent.after (report_text (seen_of tree))
+
+-- 0, 1 and 2 come with the sequential meaning of the program, or 0 with the report on its loops, and only of a command
 abbrev pub TellsMeaning : Option Command → Looked → Sent → Told → Type 0
 TellsMeaning None looked sent told = 2 < code_of told.status
 TellsMeaning (Some (seq task)) looked sent told = TellsFiles looked → code_of told.status ≤ 2 → HasRunInSequence task looked sent told
+TellsMeaning (Some (check file)) looked sent told = TellsFiles looked → code_of told.status ≤ 2 → HasReported file looked sent told
 TellsMeaning (Some (replay task script log)) looked sent told =
     TellsFiles looked → code_of told.status ≤ 2 → HasReplayed task script log looked sent told
 
@@ -167,12 +182,20 @@ pub record IsCut (looked : Looked) (sent : Sent) (told : Told) (written : List �
   pub before : sent.before ≡ Some front
   pub after : sent.after ≡ Some (front ++ written)
 
--- After 15 and 16 outcome and store are both told or neither, by what was written; where the log is full, neither.
+-- bytes are a front of a text
+abbrev pub IsFront : List ℕ → List ℕ → Type 0
+IsFront written text = (rest : List ℕ) × (text ≡ written ++ rest)
+
+-- After 15 and 16 outcome and store are both told or neither, by what was written; where the log is full, neither. Of the report on
+-- loops neither is ever told, and what was written is a front of it.
 abbrev pub TellsFront : Option Command → Looked → Sent → Told → Type 0
 TellsFront None looked sent told = IsBare told
 TellsFront (Some (seq task)) looked sent told =
     (tree : Program) (numbers : List ℤ) (written : List ℕ) → HoldsProgram looked task.file tree → HoldsInput looked task.input numbers
     → IsCut looked sent told written → IsCutBy (meaning_of tree numbers task.turns) written told
+TellsFront (Some (check file)) looked sent told =
+    IsBare told × ((tree : Program) (written : List ℕ) → HoldsProgram looked file tree → IsCut looked sent told written
+    → IsFront written (report_text (seen_of tree)))
 TellsFront (Some (replay task script log)) looked sent told =
     (tree : Program) (numbers : List ℤ) (commands : List Order) (written : List ℕ) → HoldsProgram looked task.file tree
     → HoldsInput looked task.input numbers → HoldsScript looked script commands → IsCut looked sent told written

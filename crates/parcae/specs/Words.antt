@@ -1,8 +1,14 @@
 -- Which command the words of a call are.
-use Rattle.std.specs.Prelude.{ℕ, ◌==◌, Bool, true, false, not, if◌then◌else◌, List, [], ◌∷◌, None, Some, codes}
+use Rattle.std.specs.Prelude.{ℕ, Bool, true, false, if◌then◌else◌, List, [], ◌∷◌, ◌++◌, None, Some, codes, option_map, option_and_then}
 use Rattle.std.specs.declared.option.Option.{Option}
 use Rattle.std.specs.Str.{bytes_eq}
 use Rattle.nona_text.specs.Digits.{number_within}
+use Rattle.clap.specs.Kinds.{Kinds}
+use Rattle.clap.specs.Walk.{Row, Rule, first_of}
+use Rattle.clap.specs.Simple.{App, matches_of, new_rule, new_shape}
+use Rattle.clap.specs.Takes.{is_given}
+use Rattle.clap.specs.Faults.{fault_of}
+use Rattle.clap.specs.declared.builder.action.ArgAction.TheVariants.{SetTrue}
 use Rattle.parcae.specs.declared.words.TheConstants.{DEFAULT_TURNS, TURN_LIMIT}
 
 -- what a run takes: the program's file, the input's where there is one, how many turns a loop may take whenever it is
@@ -13,77 +19,92 @@ pub record Task : Type 0 where
   pub turns : ℕ
   pub memory : Bool
 
--- a command: a run in one thread, or the replay of a script, whose log may be written
+-- a command: a run in one thread, what is seen of a program's loops, or the replay of a script, whose log may be written
 pub data Command : Type 0 where
   seq : (task : Task) → Command
+  check : (file : List ℕ) → Command
   replay : (task : Task) → (script : List ℕ) → (log : Bool) → Command
 
--- whether a word may be a file's: it doesn't begin with a minus
-abbrev pub is_name : List ℕ → Bool
-is_name [] = true
-is_name (b ∷ bs) = not (b == 45)
+-- a name of a file: the first word that is no option's is for the first such argument
+abbrev pub file_argument : List ℕ → Bool → Rule
+file_argument id required = record (new_rule id) { required = required }
 
--- a file's name, and what the words behind it are
-abbrev pub with_name : List (List ℕ) → (List ℕ → List (List ℕ) → Option Command) → Option Command
-with_name [] go = None
-with_name (w ∷ ws) go = if is_name w then go w ws else None
+-- an option with a value
+abbrev pub option_argument : List ℕ → Rule
+option_argument id = record (new_rule id) { long = Some id }
 
--- a file's name, where one stands there, and what the words behind it are
-abbrev pub with_input : List (List ℕ) → (Option (List ℕ) → List (List ℕ) → Option Command) → Option Command
-with_input [] go = go None []
-with_input (w ∷ ws) go = if is_name w then go (Some w) ws else go None (w ∷ ws)
+-- a flag
+abbrev pub flag_argument : List ℕ → Rule
+flag_argument id = record (new_rule id) { long = Some id; action = Some SetTrue }
 
--- a number of turns, where it is one from 1 to 10^12
-abbrev pub with_number : Option ℕ → (ℕ → Option Command) → Option Command
-with_number None go = None
-with_number (Some n) go = go n
-
--- `--turns N`, where it stands there, and what the words behind it are
-abbrev pub with_turns : List (List ℕ) → (ℕ → List (List ℕ) → Option Command) → Option Command
-with_turns [] go = go DEFAULT_TURNS []
-with_turns (w ∷ []) go = go DEFAULT_TURNS (w ∷ [])
-with_turns (w ∷ n ∷ ws) go =
-    if bytes_eq w (codes "--turns") then with_number (number_within 1 TURN_LIMIT n) (λ k. go k ws)
-    else go DEFAULT_TURNS (w ∷ n ∷ ws)
-
--- a flag, where it stands there, and what the words behind it are
-abbrev pub with_flag : List ℕ → List (List ℕ) → (Bool → List (List ℕ) → Option Command) → Option Command
-with_flag flag [] go = go false []
-with_flag flag (w ∷ ws) go = if bytes_eq w flag then go true ws else go false (w ∷ ws)
-
--- `--script S`, and what the words behind it are
-abbrev pub with_script : List (List ℕ) → (List ℕ → List (List ℕ) → Option Command) → Option Command
-with_script [] go = None
-with_script (w ∷ ws) go = if bytes_eq w (codes "--script") then with_name ws go else None
-
--- no words are left
-abbrev pub at_end : List (List ℕ) → Command → Option Command
-at_end [] x = Some x
-at_end (w ∷ ws) x = None
-
--- the flag for the memory
-abbrev pub memory_flag : List ℕ
-memory_flag = codes "--memory"
-
--- the flag for the log
-abbrev pub log_flag : List ℕ
-log_flag = codes "--log"
+-- a command with these arguments and no others, as `--help`, whose words begin behind its name
+abbrev pub with_arguments : List ℕ → List Rule → App
+with_arguments name arguments = record {
+  top = record (new_shape name) { rules = arguments; no_binary_name = true; disable_help_flag = true };
+  subs = [];
+}
 
 -- `FILE [INPUT] [--turns N] [--memory]`
-abbrev pub seq_words : List (List ℕ) → Option Command
-seq_words words =
-    with_name words (λ file a. with_input a (λ input b. with_turns b (λ turns c. with_flag memory_flag c (λ memory d.
-    at_end d (seq (record { file = file; input = input; turns = turns; memory = memory }))))))
+abbrev pub run_arguments : List Rule
+run_arguments =
+    file_argument (codes "file") true ∷ file_argument (codes "input") false ∷ option_argument (codes "turns")
+    ∷ flag_argument (codes "memory") ∷ []
 
--- `FILE [INPUT] --script S [--turns N] [--memory] [--log]`
-abbrev pub replay_words : List (List ℕ) → Option Command
-replay_words words =
-    with_name words (λ file a. with_input a (λ input b. with_script b (λ script c. with_turns c (λ turns d.
-    with_flag memory_flag d (λ memory e. with_flag log_flag e (λ log f.
-    at_end f (replay (record { file = file; input = input; turns = turns; memory = memory }) script log)))))))
+-- what `seq` takes
+abbrev pub seq_arguments : App
+seq_arguments = with_arguments (codes "seq") run_arguments
 
--- the command that words are, or none
+-- what `check` takes: `FILE`
+abbrev pub check_arguments : App
+check_arguments = with_arguments (codes "check") (file_argument (codes "file") true ∷ [])
+
+-- what `replay` takes: besides `--script S [--log]`
+abbrev pub replay_arguments : App
+replay_arguments =
+    with_arguments (codes "replay") (run_arguments ++ option_argument (codes "script") ∷ flag_argument (codes "log") ∷ [])
+
+-- what was found, where there is no fault
+abbrev pub where_taken : Kinds → List Row → Option (List Row)
+where_taken [] found = Some found
+where_taken (fault ∷ faults) found = None
+
+-- what clap finds in the words behind a command's name, where it doesn't refuse them
+unfoldable pub found_in : App → List (List ℕ) → Option (List Row)
+found_in arguments words = where_taken (fault_of arguments words) (matches_of arguments words)
+
+-- how many turns a loop may take, by the text behind `--turns`
+abbrev pub turns_by : Option (List ℕ) → Option ℕ
+turns_by None = Some DEFAULT_TURNS
+turns_by (Some text) = number_within 1 TURN_LIMIT text
+
+-- what a run takes, by what was found
+abbrev pub task_by : List Row → Option Task
+task_by found = option_and_then (λ file. option_map (λ turns. record {
+  file = file;
+  input = first_of (codes "input") found;
+  turns = turns;
+  memory = is_given (codes "memory") found;
+}) (turns_by (first_of (codes "turns") found))) (first_of (codes "file") found)
+
+-- the command `seq`
+abbrev pub seq_by : List Row → Option Command
+seq_by found = option_map seq (task_by found)
+
+-- the command `check`
+abbrev pub check_by : List Row → Option Command
+check_by found = option_map check (first_of (codes "file") found)
+
+-- the command `replay`: there is none without a script
+abbrev pub replay_by : List Row → Option Command
+replay_by found =
+    option_and_then (λ script. option_map (λ task. replay task script (is_given (codes "log") found)) (task_by found))
+    (first_of (codes "script") found)
+
+-- the command that words are, or none: the first word is its name
 abbrev pub meant : List (List ℕ) → Option Command
 meant [] = None
-meant (w ∷ ws) =
-    if bytes_eq w (codes "seq") then seq_words ws else if bytes_eq w (codes "replay") then replay_words ws else None
+meant (name ∷ words) =
+    if bytes_eq name (codes "seq") then option_and_then seq_by (found_in seq_arguments words)
+    else if bytes_eq name (codes "check") then option_and_then check_by (found_in check_arguments words)
+    else if bytes_eq name (codes "replay") then option_and_then replay_by (found_in replay_arguments words)
+    else None

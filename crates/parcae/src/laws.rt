@@ -7,7 +7,8 @@ use nona_parse::reads_one_tree;
 /// Says what each exit status tells of every call that answers as `parcae_still` does: of each command, over a shelf that
 /// tells what it holds, and a sink that tells what was written. It does nothing when called.
 pub fn statuses_tell()
-    // 0, 1 and 2 come with the outcome, the store and exactly the text of the program's sequential meaning.
+    // 0, 1 and 2 come with the outcome, the store and exactly the text of the program's sequential meaning; of `check` only 0 comes,
+    // with exactly the report on the program's loops.
     ensures ended { OfEachCall TellsMeaning }
     // 10 comes exactly where the words are no command.
     ensures usage { OfEachCall TellsUsage }
@@ -21,7 +22,8 @@ pub fn statuses_tell()
     ensures failed { OfEachCall TellsFailedRead }
     // 15 has its fault.
     ensures unwritten { OfEachCall TellsFailedWrite }
-    // After 15 and 16 outcome and store are both told or neither, by what was written.
+    // After 15 and 16 outcome and store are both told or neither, by what was written. Of `check` neither is told, and a front of its
+    // report was written.
     ensures front { OfEachCall TellsFront }
     // 17 comes only where a file is too long.
     ensures long { OfEachCall TellsLongFile }

@@ -1,8 +1,8 @@
 //! Runs programs of a small language whose parallel loops change shape while they run.
 #![tactic(auto)]
 
+mod check;
 mod files;
-mod images;
 mod laws;
 mod refusal;
 mod replays;

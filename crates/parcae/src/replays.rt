@@ -5,15 +5,16 @@ ghost use Rattle.nona_store.specs.Input.{number_bound};
 ghost use Rattle.weave.specs.Following.{AreCommands};
 ghost use Rattle.parcae.specs.Told.{told_of};
 ghost use Rattle.parcae.specs.Ends.{Ends};
+ghost use Rattle.parcae.specs.Files.{AskForSeq};
 ghost use Rattle.parcae.specs.Due.{DueOfReplay};
 
-use crate::images::replay_image;
 use crate::report::{Report, bare, logged, once_sent};
 use crate::runs::{Asked, declared_stays, finish};
 use crate::status::Status;
 use fate_io::{Sink, send};
 use morta_exec::{Beginning, DriveFault, drive};
 use morta_task::Log;
+use nona_gen::compile;
 use nona_store::Store;
 use nona_tree::{Checked, checked_is_scoped};
 use std::alloc::Global;
@@ -35,6 +36,7 @@ pub fn replay_script<K: Sink>(
     requires few { length input.items ≤ number_bound }
     requires numbers { All IsI64 input.items }
     requires valid { AreCommands script.commands.items }
+    requires alone { AskForSeq script.commands.items }
     requires some_turns { 1 ≤ asked.turns }
     requires few_turns { asked.turns ≤ 10 ^ 12 }
     ensures { Ends (DueOfReplay program.now input.items script.commands.items asked.turns asked.memory asked.log)
@@ -43,7 +45,7 @@ pub fn replay_script<K: Sink>(
     checked_is_scoped();
     declared_stays();
     let tree = program.program();
-    let Ok(image) = replay_image(alloc, program) else {
+    let Ok(image) = compile(alloc, program) else {
         return bare(alloc, Status::NoMemory);
     };
     let Ok(store) = Store::start(alloc, program, input) else {

@@ -10,13 +10,13 @@ ghost use Rattle.parcae.specs.Told.{told_of, ran_of, finished};
 ghost use Rattle.parcae.specs.Ends.{Ends, SendsReport};
 ghost use Rattle.parcae.specs.Due.{where_asked, behind_numbers, DueOfSeq};
 
-use crate::images::replay_image;
 use crate::report::{Report, bare, broken_status, finished, once_sent};
 use crate::status::Status;
 use fate_io::{SendFault, Sink};
 use morta_exec::{Beginning, run_through};
 use morta_task::Log;
 use morta_text::{send_log, send_memory, send_outcome};
+use nona_gen::compile;
 use nona_store::{Ended, Store};
 use nona_tree::{Checked, Program, checked_is_scoped, lengths_stay, scalars_stay};
 use std::alloc::Global;
@@ -144,7 +144,7 @@ pub fn run_in_sequence<K: Sink>(
     checked_is_scoped();
     declared_stays();
     let tree = program.program();
-    let Ok(image) = replay_image(alloc, program) else {
+    let Ok(image) = compile(alloc, program) else {
         return bare(alloc, Status::NoMemory);
     };
     let Ok(store) = Store::start(alloc, program, input) else {

@@ -2,11 +2,12 @@ ghost use Rattle.std.specs.Prelude.{◌≡◌, ◌≤◌, map, string_bytes, Som
 ghost use Rattle.parcae.specs.Told.{told_of};
 ghost use Rattle.fate_io.specs.Sending.{sent_since};
 ghost use Rattle.parcae.specs.declared.words.TheConstants.{TURN_LIMIT};
-ghost use Rattle.parcae.specs.Words.{seq, replay, meant};
+ghost use Rattle.parcae.specs.Words.{seq, check, replay, meant};
 ghost use Rattle.parcae.specs.Meant.{task_of};
 ghost use Rattle.fate_io.specs.Reading.{looked_since};
 ghost use Rattle.parcae.specs.Answers.{Answers, IsComplete};
 
+use crate::check::report_loops;
 use crate::files::{input_in, program_in, script_in};
 use crate::refusal::{Refusal, Stop, give_up};
 use crate::replays::replay_script;
@@ -18,16 +19,16 @@ use nona_parse::reads_one_tree;
 use std::alloc::Global;
 
 /// The command `seq`: runs a program in one thread.
-fn seq<S: Shelf, K: Sink>(alloc: Global, run: Run<'_>, shelf: &mut S, out: &mut K) -> Report
-    requires some_turns { 1 ≤ run.turns }
-    requires few_turns { run.turns ≤ TURN_LIMIT }
+fn seq<S: Shelf, K: Sink>(alloc: Global, run: &Run, shelf: &mut S, out: &mut K) -> Report
+    requires some_turns { 1 ≤ run.now.turns }
+    requires few_turns { run.now.turns ≤ TURN_LIMIT }
     ensures same { S.held shelf.new ≡ S.held shelf.old }
-    ensures answers { Answers (Some (seq (task_of run.entry)))
+    ensures answers { Answers (Some (seq (task_of run.now)))
         (looked_since S.held S.failed shelf.old shelf.new)
         (sent_since K.written K.faults out.old out.new) (told_of result) }
 {
-    match program_in(alloc, run.file, shelf) {
-        Ok(program) => match input_in(alloc, run.input, shelf) {
+    match program_in(alloc, run.file.as_str(), shelf) {
+        Ok(program) => match input_in(alloc, run.input.as_deref(), shelf) {
             Ok(input) => run_in_sequence(alloc, &program, input, run.turns, run.memory, out),
             Err(stop) => give_up(alloc, stop, out),
         },
@@ -35,24 +36,37 @@ fn seq<S: Shelf, K: Sink>(alloc: Global, run: Run<'_>, shelf: &mut S, out: &mut 
     }
 }
 
+/// The command `check`: says of each loop of a program whether it is a region, and how it may run, or why it is none.
+fn check<S: Shelf, K: Sink>(alloc: Global, file: &str, shelf: &mut S, out: &mut K) -> Report
+    ensures same { S.held shelf.new ≡ S.held shelf.old }
+    ensures answers { Answers (Some (check file.now))
+        (looked_since S.held S.failed shelf.old shelf.new)
+        (sent_since K.written K.faults out.old out.new) (told_of result) }
+{
+    match program_in(alloc, file, shelf) {
+        Ok(program) => report_loops(alloc, &program, out),
+        Err(stop) => give_up(alloc, stop, out),
+    }
+}
+
 /// The command `replay`: replays a script over a program.
 fn replay<S: Shelf, K: Sink>(
     alloc: Global,
-    run: Run<'_>,
+    run: &Run,
     script: &str,
     log: bool,
     shelf: &mut S,
     out: &mut K,
 ) -> Report
-    requires some_turns { 1 ≤ run.turns }
-    requires few_turns { run.turns ≤ TURN_LIMIT }
+    requires some_turns { 1 ≤ run.now.turns }
+    requires few_turns { run.now.turns ≤ TURN_LIMIT }
     ensures same { S.held shelf.new ≡ S.held shelf.old }
-    ensures answers { Answers (Some (replay (task_of run.entry) script.now log))
+    ensures answers { Answers (Some (replay (task_of run.now) script.now log))
         (looked_since S.held S.failed shelf.old shelf.new)
         (sent_since K.written K.faults out.old out.new) (told_of result) }
 {
-    match program_in(alloc, run.file, shelf) {
-        Ok(program) => match input_in(alloc, run.input, shelf) {
+    match program_in(alloc, run.file.as_str(), shelf) {
+        Ok(program) => match input_in(alloc, run.input.as_deref(), shelf) {
             Ok(input) => match script_in(alloc, script, shelf) {
                 Ok(script) => {
                     let asked = Asked {
@@ -76,10 +90,14 @@ fn still<S: Shelf, K: Sink>(alloc: Global, words: &[String], shelf: &mut S, out:
         (looked_since S.held S.failed shelf.old shelf.new)
         (sent_since K.written K.faults out.old out.new) (told_of result) }
 {
-    match command_of(words) {
-        Some(Command::Seq(run)) => seq(alloc, run, shelf, out),
-        Some(Command::Replay { run, script, log }) => replay(alloc, run, script, log, shelf, out),
-        None => give_up(alloc, Stop::Refused(Refusal::Usage), out),
+    match command_of(alloc, words) {
+        Ok(Some(Command::Seq(run))) => seq(alloc, &run, shelf, out),
+        Ok(Some(Command::Check { file })) => check(alloc, file.as_str(), shelf, out),
+        Ok(Some(Command::Replay { run, script, log })) => {
+            replay(alloc, &run, script.as_str(), log, shelf, out)
+        }
+        Ok(None) => give_up(alloc, Stop::Refused(Refusal::Usage), out),
+        Err(_) => give_up(alloc, Stop::NoMemory, out),
     }
 }
 
@@ -87,14 +105,16 @@ fn still<S: Shelf, K: Sink>(alloc: Global, words: &[String], shelf: &mut S, out:
 ///
 /// - `seq FILE [INPUT] [--turns N] [--memory]` runs the program that the shelf holds under the first name, over the numbers
 ///   that it holds under the second, in one thread.
+/// - `check FILE` says of the program's loops which are regions, with their versions and stages, and why the others are none.
 /// - `replay FILE [INPUT] --script S [--turns N] [--memory] [--log]` replays the script that it holds under S over them.
 ///
-/// The words stand in this order; no name begins with `-`, and N, how many turns a loop may take whenever it is entered, is
-/// from 1 to 10^12, and 10^9 where it isn't said. Each printed number is written on a line, then the outcome where it is not
-/// done, the memory and the log where they are asked for, by one put for each line.
+/// Behind the first word names and options stand in any order. A name doesn't begin with `-`, but is `-` itself or stands behind
+/// `--`. N, how many turns a loop may take whenever it is entered, is from 1 to 10^12, and 10^9 where it isn't said. A run writes
+/// each printed number on a line, then the outcome where it is not done, the memory and the log where they are asked for;
+/// `check` writes its report. Each line is one put.
 ///
 /// The report's status is `Done`, `Trap` or `OutOfTurns` by the program's sequential meaning, with its outcome and store, and
-/// with the log; `LogFull` where an interval would be the 1,048,577th, after the numbers printed where it would start; `Usage`
+/// with the log; of `check` it is `Done`, with neither and with an empty log; `LogFull` where an interval would be the 1,048,577th, after the numbers printed where it would start; `Usage`
 /// where the words are no command; `Refused`, `Input` or `Script` where a text is refused, by its first fault; `TooLong` where
 /// a file holds more than it may; each of these after exactly its own text was written. It is `ReadFailed` only where this
 /// call added the file's name to the shelf's failed names, `WriteFailed` only where the sink's count of faults rose in this
@@ -112,7 +132,7 @@ pub fn parcae_still<S: Shelf, K: Sink>(
     ensures answers { Answers (meant (map string_bytes words.now))
         (looked_since S.held S.failed shelf.old shelf.new)
         (sent_since K.written K.faults out.old out.new) (told_of result) }
-    // A command over held files ends with what is due of its run, whole, where nothing outside fails.
+    // A command over held files ends with what is due of its run or its report, whole, where nothing outside fails.
     ensures complete { IsComplete (meant (map string_bytes words.now))
         (looked_since S.held S.failed shelf.old shelf.new)
         (sent_since K.written K.faults out.old out.new) (told_of result) }

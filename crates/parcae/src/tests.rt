@@ -55,6 +55,9 @@ const LINE: &str = "replay mixed input --script script --memory --log";
 const WHOLE: &str =
     "12\n345\n345\nvar s = 0\narray a 2\na[1] = 1\nentry 1 region 1 low 0 high 2\nfrom 0 to 1 asked seq 1 ran seq 1 steps 4 waits 0 ticks 4 end limit\nfrom 1 to 2 asked seq 1 ran seq 1 steps 4 waits 0 ticks 4 end limit\nintervals 2\n";
 
+/// The report on the loops of the program above.
+const LOOPS: &str = "region 1 at 29 any no pipe yes\nstage 1 S 2\nstage 2 P 1\nok\n";
+
 #[test]
 fn what_is_written_and_the_status(rt: HostRuntime) -> Result<(), Fail> {
     use Status::{Done, ReadFailed, WriteFailed};
@@ -73,6 +76,15 @@ fn what_is_written_and_the_status(rt: HostRuntime) -> Result<(), Fail> {
             "read failed input\n",
         ),
         ("seq mixed", 0, 2, ROOM, WriteFailed, "12\n34"),
+        ("check mixed", 0, 0, ROOM, Done, LOOPS),
+        (
+            "check mixed",
+            0,
+            2,
+            ROOM,
+            WriteFailed,
+            "region 1 at 29 any no pipe yes\nstage ",
+        ),
         ("seq absent", 0, 1, ROOM, WriteFailed, "read faile"),
         ("seq", 0, 1, ROOM, WriteFailed, "usa"),
         ("seq mixed", 0, 9, 5, WriteFailed, "12\n34"),
@@ -117,6 +129,15 @@ fn what_is_told_beside_a_front(rt: HostRuntime) -> Result<(), Fail> {
         let (report, sink) = call(rt.alloc(), LINE, 0, put, ROOM)?;
         assert_eq!(rt; parts(&report), (intervals, ended, ended), "put {put}");
         assert!(rt; WHOLE.as_bytes().starts_with(sink.text()), "put {put}");
+    }
+    Ok(())
+}
+
+#[test]
+fn what_is_told_beside_a_report_on_loops(rt: HostRuntime) -> Result<(), Fail> {
+    for put in [0, 2] {
+        let (report, _) = call(rt.alloc(), "check mixed", 0, put, ROOM)?;
+        assert_eq!(rt; parts(&report), (0, false, false), "put {put}");
     }
     Ok(())
 }

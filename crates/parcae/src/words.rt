@@ -1,11 +1,18 @@
-ghost use Rattle.std.specs.Prelude.{◌≡◌, ◌≤◌, ◌∷◌, [], ℕ, Bool, List, map, string_bytes, MatchOption, IfSome, None, Some};
+ghost use Rattle.std.specs.Prelude.{◌≡◌, ◌≤◌, ◌∷◌, [], true, false, map, string_bytes, option_map, option_and_then, MatchOption, IfSome, IfOk};
 ghost use Rattle.std.specs.Option.{option_copied};
-ghost use Rattle.std.specs.declared.option.Option.{Option};
-ghost use Rattle.parcae.specs.Words.{Command as Meaning, is_name, with_name, with_input, with_turns, with_flag, with_script, seq_words, replay_words, meant};
-ghost use Rattle.parcae.specs.Meant.{IsMeant, HasTurns};
+ghost use Rattle.clap.specs.Walk.{rule_of, first_of};
+ghost use Rattle.clap.specs.Simple.{app_of};
+ghost use Rattle.clap.specs.Takes.{is_given};
+ghost use Rattle.clap.specs.Faults.{is_simple_and_free};
+ghost use Rattle.parcae.specs.Words.{file_argument, option_argument, flag_argument, with_arguments, run_arguments, seq_arguments, check_arguments, replay_arguments, found_in, turns_by, task_by, seq_by, check_by, replay_by, meant};
+ghost use Rattle.parcae.specs.Meant.{IsMeant, HasTurns, entries, task_of};
 ghost use Rattle.parcae.specs.declared.words.TheConstants.{TURN_LIMIT};
 
+use clap::error::ErrorKind;
+use clap::parser::ValueSource;
+use clap::{Arg, ArgAction, ArgMatches};
 use nona_text::number_within;
+use std::alloc::{AllocError, Global};
 
 /// How many turns a loop may take whenever it is entered, where the words don't say.
 const DEFAULT_TURNS: u64 = 1_000_000_000;
@@ -15,35 +22,212 @@ const TURN_LIMIT: u64 = 1_000_000_000_000;
 
 /// What a run takes: the program's file, the input's where there is one, how many turns a loop may take whenever it is
 /// entered, from 1 to 10^12, and whether the memory is written.
-#[derive(Clone, Copy)]
-pub struct Run<'a> {
-    pub file: &'a str,
-    pub input: Option<&'a str>,
+#[derive(Drop)]
+pub struct Run {
+    pub file: String,
+    pub input: Option<String>,
     pub turns: u64,
     pub memory: bool,
 }
 
 /// A command.
-#[derive(Clone, Copy)]
-pub enum Command<'a> {
+#[derive(Drop)]
+pub enum Command {
     /// A run in one thread.
-    Seq(Run<'a>),
+    Seq(Run),
+    /// What is seen of the loops of the program in a file.
+    Check { file: String },
     /// The replay of the script in a file, whose log may be written.
-    Replay {
-        run: Run<'a>,
-        script: &'a str,
-        log: bool,
-    },
+    Replay { run: Run, script: String, log: bool },
 }
 
-/// Whether a word may be a file's: it doesn't begin with a minus.
-fn is_name(word: &str) -> bool
-    ensures { result ≡ is_name word.now }
+/// A name of a file: the first word that is no option's is for the first such argument.
+fn file_argument<'a>(alloc: Global, id: &'a str, required: bool) -> Arg<'a>
+    ensures rule { rule_of result ≡ file_argument id.entry.now required }
+    ensures own { result.global ≡ false }
 {
-    match word.as_bytes() {
-        [] => true,
-        [first, ..] => *first != b'-',
+    Arg::new(alloc, id).required(required)
+}
+
+/// An option with a value.
+fn option_argument<'a>(alloc: Global, id: &'a str) -> Arg<'a>
+    ensures rule { rule_of result ≡ option_argument id.entry.now }
+    ensures own { result.global ≡ false }
+{
+    Arg::new(alloc, id).long(id)
+}
+
+/// A flag.
+fn flag_argument<'a>(alloc: Global, id: &'a str) -> Arg<'a>
+    ensures rule { rule_of result ≡ flag_argument id.entry.now }
+    ensures own { result.global ≡ false }
+{
+    Arg::new(alloc, id).long(id).action(ArgAction::SetTrue)
+}
+
+/// A command with no arguments, not even `--help`, whose words begin behind its name.
+fn without_arguments<'a>(alloc: Global, name: &'a str) -> clap::Command<'a>
+    ensures { app_of result ≡ with_arguments name.entry.now [] }
+{
+    clap::Command::new(alloc, name)
+        .no_binary_name(true)
+        .disable_help_flag(true)
+}
+
+/// What the command of this name takes that runs a program: `FILE [INPUT] [--turns N] [--memory]`.
+fn run_arguments<'a>(alloc: Global, name: &'a str) -> Result<clap::Command<'a>, AllocError>
+    ensures { IfOk result (λ arguments. app_of arguments ≡ with_arguments name.entry.now run_arguments) }
+{
+    without_arguments(alloc, name)
+        .arg(file_argument(alloc, "file", true))?
+        .arg(file_argument(alloc, "input", false))?
+        .arg(option_argument(alloc, "turns"))?
+        .arg(flag_argument(alloc, "memory"))
+}
+
+/// What `check` takes: `FILE`.
+fn check_arguments<'a>(alloc: Global) -> Result<clap::Command<'a>, AllocError>
+    ensures { IfOk result (λ arguments. app_of arguments ≡ check_arguments) }
+{
+    without_arguments(alloc, "check").arg(file_argument(alloc, "file", true))
+}
+
+/// What `replay` takes: besides what runs a program `--script S [--log]`.
+fn replay_arguments<'a>(alloc: Global) -> Result<clap::Command<'a>, AllocError>
+    ensures { IfOk result (λ arguments. app_of arguments ≡ replay_arguments) }
+{
+    run_arguments(alloc, "replay")?
+        .arg(option_argument(alloc, "script"))?
+        .arg(flag_argument(alloc, "log"))
+}
+
+/// What is found in the words behind a command's name, or none where they are refused. The one error is that memory ran out.
+fn found_in<'a>(
+    arguments: clap::Command<'a>,
+    words: &'a [String],
+) -> Result<Option<ArgMatches<'a>>, AllocError>
+    requires { is_simple_and_free (app_of arguments) ≡ true }
+    ensures { IfOk result (λ found. option_map entries found ≡ found_in (app_of arguments.entry) (map string_bytes words.now)) }
+{
+    match arguments.try_get_matches_from(words) {
+        Ok(found) => Ok(Some(found)),
+        Err(fault) => match fault.kind() {
+            ErrorKind::OutOfMemory => Err(AllocError),
+            _ => Ok(None),
+        },
     }
+}
+
+/// The text of an argument, where it has one.
+fn text_of<'a>(found: &ArgMatches<'a>, id: &str) -> Option<&'a str>
+    ensures { option_copied result ≡ first_of id.now (entries found.now) }
+{
+    found.get_str(id)
+}
+
+/// Whether the words have an argument: its entry isn't made by default.
+fn is_given(found: &ArgMatches<'_>, id: &str) -> bool
+    ensures { result ≡ is_given id.now (entries found.now) }
+{
+    match found.value_source(id) {
+        Some(ValueSource::DefaultValue) => false,
+        Some(ValueSource::CommandLine) => true,
+        None => found.contains_id(id),
+    }
+}
+
+/// A copy of a text, where there is one.
+fn copy_of(alloc: Global, text: Option<&str>) -> Result<Option<String>, AllocError>
+    ensures { IfOk result (λ copy. option_map string_bytes copy ≡ option_copied text.entry) }
+{
+    match text {
+        Some(text) => match String::from_str(alloc, text) {
+            Ok(copy) => Ok(Some(copy)),
+            Err(fault) => Err(fault),
+        },
+        None => Ok(None),
+    }
+}
+
+/// How many turns a loop may take whenever it is entered, by the text behind `--turns`: a number from 1 to 10^12, or none.
+fn turns_by(text: Option<&str>) -> Option<u64>
+    ensures value { result ≡ turns_by (option_copied text.entry) }
+    ensures within { IfSome result (λ turns. (1 ≤ turns) × (turns ≤ TURN_LIMIT)) }
+{
+    match text {
+        Some(text) => number_within(1, TURN_LIMIT, text.as_bytes()),
+        None => Some(DEFAULT_TURNS),
+    }
+}
+
+/// What a run takes, by what was found.
+fn run_by(alloc: Global, found: &ArgMatches<'_>) -> Result<Option<Run>, AllocError>
+    ensures task { IfOk result (λ run. option_map task_of run ≡ task_by (entries found.now)) }
+    ensures turns { IfOk result (λ run. IfSome run (λ r. (1 ≤ r.turns) × (r.turns ≤ TURN_LIMIT))) }
+{
+    let Some(file) = text_of(found, "file") else {
+        return Ok(None);
+    };
+    let Some(turns) = turns_by(text_of(found, "turns")) else {
+        return Ok(None);
+    };
+    let file = String::from_str(alloc, file)?;
+    let input = copy_of(alloc, text_of(found, "input"))?;
+    let memory = is_given(found, "memory");
+    Ok(Some(Run {
+        file,
+        input,
+        turns,
+        memory,
+    }))
+}
+
+/// The command `seq` with these words behind its name, where they are its.
+fn seq_by(alloc: Global, words: &[String]) -> Result<Option<Command>, AllocError>
+    ensures meant { IfOk result (λ c. IsMeant c (option_and_then seq_by (found_in seq_arguments (map string_bytes words.now)))) }
+    ensures turns { IfOk result (λ c. IfSome c HasTurns) }
+{
+    let Some(found) = found_in(run_arguments(alloc, "seq")?, words)? else {
+        return Ok(None);
+    };
+    let Some(run) = run_by(alloc, &found)? else {
+        return Ok(None);
+    };
+    Ok(Some(Command::Seq(run)))
+}
+
+/// The command `check` with these words behind its name, where they are its.
+fn check_by(alloc: Global, words: &[String]) -> Result<Option<Command>, AllocError>
+    ensures meant { IfOk result (λ c. IsMeant c (option_and_then check_by (found_in check_arguments (map string_bytes words.now)))) }
+    ensures turns { IfOk result (λ c. IfSome c HasTurns) }
+{
+    let Some(found) = found_in(check_arguments(alloc)?, words)? else {
+        return Ok(None);
+    };
+    let Some(file) = text_of(&found, "file") else {
+        return Ok(None);
+    };
+    let file = String::from_str(alloc, file)?;
+    Ok(Some(Command::Check { file }))
+}
+
+/// The command `replay` with these words behind its name, where they are its.
+fn replay_by(alloc: Global, words: &[String]) -> Result<Option<Command>, AllocError>
+    ensures meant { IfOk result (λ c. IsMeant c (option_and_then replay_by (found_in replay_arguments (map string_bytes words.now)))) }
+    ensures turns { IfOk result (λ c. IfSome c HasTurns) }
+{
+    let Some(found) = found_in(replay_arguments(alloc)?, words)? else {
+        return Ok(None);
+    };
+    let Some(script) = text_of(&found, "script") else {
+        return Ok(None);
+    };
+    let Some(run) = run_by(alloc, &found)? else {
+        return Ok(None);
+    };
+    let script = String::from_str(alloc, script)?;
+    let log = is_given(&found, "log");
+    Ok(Some(Command::Replay { run, script, log }))
 }
 
 /// The first word and those behind it.
@@ -56,156 +240,23 @@ fn split_first(words: &[String]) -> Option<(&str, &[String])>
     }
 }
 
-/// A file's name, and the words behind it.
-fn take_name(words: &[String]) -> Option<(&str, &[String])>
-    ensures { (go : List ℕ → List (List ℕ) → Option Meaning) → MatchOption result
-        (with_name (map string_bytes words.now) go ≡ None)
-        (λ x. with_name (map string_bytes words.now) go ≡ go x.0.now (map string_bytes x.1.now)) }
+/// The command that words are, where they are one. The one error is that memory ran out.
+pub fn command_of(alloc: Global, words: &[String]) -> Result<Option<Command>, AllocError>
+    ensures meant { IfOk result (λ c. IsMeant c (meant (map string_bytes words.now))) }
+    ensures turns { IfOk result (λ c. IfSome c HasTurns) }
 {
     match split_first(words) {
-        Some((word, rest)) => {
-            if is_name(word) {
-                Some((word, rest))
+        Some((name, rest)) => {
+            if name == "seq" {
+                seq_by(alloc, rest)
+            } else if name == "check" {
+                check_by(alloc, rest)
+            } else if name == "replay" {
+                replay_by(alloc, rest)
             } else {
-                None
+                Ok(None)
             }
         }
-        None => None,
-    }
-}
-
-/// A file's name, where one stands there, and the words behind it.
-fn take_input(words: &[String]) -> (Option<&str>, &[String])
-    ensures { (go : Option (List ℕ) → List (List ℕ) → Option Meaning)
-        → with_input (map string_bytes words.now) go ≡ go (option_copied result.0) (map string_bytes result.1.now) }
-{
-    match split_first(words) {
-        Some((word, rest)) => {
-            if is_name(word) {
-                (Some(word), rest)
-            } else {
-                (None, words)
-            }
-        }
-        None => (None, words),
-    }
-}
-
-/// `--turns N`, where it stands there, and the words behind it. There is none where N is no number from 1 to 10^12.
-fn take_turns(words: &[String]) -> Option<(u64, &[String])>
-    ensures taken { (go : ℕ → List (List ℕ) → Option Meaning) → MatchOption result
-        (with_turns (map string_bytes words.now) go ≡ None)
-        (λ x. with_turns (map string_bytes words.now) go ≡ go x.0 (map string_bytes x.1.now)) }
-    ensures within { IfSome result (λ x. (1 ≤ x.0) × (x.0 ≤ TURN_LIMIT)) }
-{
-    match words {
-        [word, number, rest @ ..] => {
-            if word.as_str() == "--turns" {
-                match number_within(1, TURN_LIMIT, number.as_bytes()) {
-                    Some(turns) => Some((turns, rest)),
-                    None => None,
-                }
-            } else {
-                Some((DEFAULT_TURNS, words))
-            }
-        }
-        _ => Some((DEFAULT_TURNS, words)),
-    }
-}
-
-/// Whether a flag stands there, and the words behind it.
-fn take_flag<'a>(flag: &str, words: &'a [String]) -> (bool, &'a [String])
-    ensures { (go : Bool → List (List ℕ) → Option Meaning)
-        → with_flag flag.now (map string_bytes words.now) go ≡ go result.0 (map string_bytes result.1.now) }
-{
-    match split_first(words) {
-        Some((word, rest)) => {
-            if word == flag {
-                (true, rest)
-            } else {
-                (false, words)
-            }
-        }
-        None => (false, words),
-    }
-}
-
-/// `--script S`, and the words behind it.
-fn take_script(words: &[String]) -> Option<(&str, &[String])>
-    ensures { (go : List ℕ → List (List ℕ) → Option Meaning) → MatchOption result
-        (with_script (map string_bytes words.now) go ≡ None)
-        (λ x. with_script (map string_bytes words.now) go ≡ go x.0.now (map string_bytes x.1.now)) }
-{
-    match split_first(words) {
-        Some((word, rest)) => {
-            if word == "--script" {
-                take_name(rest)
-            } else {
-                None
-            }
-        }
-        None => None,
-    }
-}
-
-/// The words behind `seq`: `FILE [INPUT] [--turns N] [--memory]`.
-fn seq_words(words: &[String]) -> Option<Command<'_>>
-    ensures meant { IsMeant result (seq_words (map string_bytes words.now)) }
-    ensures turns { IfSome result HasTurns }
-{
-    let (file, rest) = take_name(words)?;
-    let (input, rest) = take_input(rest);
-    let (turns, rest) = take_turns(rest)?;
-    let (memory, rest) = take_flag("--memory", rest);
-    if !rest.is_empty() {
-        return None;
-    }
-    Some(Command::Seq(Run {
-        file,
-        input,
-        turns,
-        memory,
-    }))
-}
-
-/// The words behind `replay`: `FILE [INPUT] --script S [--turns N] [--memory] [--log]`.
-fn replay_words(words: &[String]) -> Option<Command<'_>>
-    ensures meant { IsMeant result (replay_words (map string_bytes words.now)) }
-    ensures turns { IfSome result HasTurns }
-{
-    let (file, rest) = take_name(words)?;
-    let (input, rest) = take_input(rest);
-    let (script, rest) = take_script(rest)?;
-    let (turns, rest) = take_turns(rest)?;
-    let (memory, rest) = take_flag("--memory", rest);
-    let (log, rest) = take_flag("--log", rest);
-    if !rest.is_empty() {
-        return None;
-    }
-    let run = Run {
-        file,
-        input,
-        turns,
-        memory,
-    };
-    Some(Command::Replay { run, script, log })
-}
-
-/// The command that words are, where they are one.
-pub fn command_of(words: &[String]) -> Option<Command<'_>>
-    ensures meant { IsMeant result (meant (map string_bytes words.now)) }
-    ensures turns { IfSome result HasTurns }
-{
-    match split_first(words) {
-        Some((word, rest)) => {
-            if word == "seq" {
-                seq_words(rest)
-            } else if word == "replay" {
-                replay_words(rest)
-            } else {
-                None
-            }
-        }
-        None => None,
+        None => Ok(None),
     }
 }

@@ -1,6 +1,7 @@
 use Rattle.std.proofs.Common.{◌≡◌, take}
 use Rattle.std.specs.Io.KnownBytes.{Appends}
-use Rattle.morta_text.specs.Texts.{texts_from, interval_text}
+use Rattle.fate_io.specs.Numbered.{texts_from}
+use Rattle.morta_text.specs.Texts.{interval_text}
 use Rattle.morta_text.proofs.log_lines.send_intervals.Given as goal
 
 -- the intervals so far went out, with their entries

@@ -1,6 +1,7 @@
 use Rattle.std.proofs.Common.{length}
 use Rattle.fate_io.proofs.Texts.{sends_both, sends_first}
-use Rattle.morta_text.specs.Texts.{texts_from, interval_text, intervals_line}
+use Rattle.fate_io.specs.Numbered.{texts_from}
+use Rattle.morta_text.specs.Texts.{interval_text, intervals_line}
 use Rattle.morta_text.proofs.log_lines.send_log.Goals as goal
 
 -- the intervals went out, and then the line of how many there are as far as it did

@@ -1,6 +1,7 @@
 use Rattle.std.proofs.Common.{length}
 use Rattle.fate_io.proofs.Texts.{sends_both, sends_first}
-use Rattle.morta_text.specs.Texts.{array_line, cell_text, texts_from}
+use Rattle.fate_io.specs.Numbered.{texts_from}
+use Rattle.morta_text.specs.Texts.{array_line, cell_text}
 use Rattle.morta_text.proofs.memory_lines.send_array.Goals as goal
 
 -- the line of the array went out, and then those of its cells as far as they did

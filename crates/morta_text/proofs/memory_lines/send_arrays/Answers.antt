@@ -1,7 +1,7 @@
 use Rattle.std.proofs.Common.{arith, ◌+◌, ◌∙◌}
 use Rattle.std.proofs.lemmas.Result.{err_from_is_err_and}
 use Rattle.morta_text.specs.Texts.{declared_text}
-use Rattle.morta_text.proofs.Numbered.{numbered_more, numbered_stop}
+use Rattle.fate_io.proofs.Numbered.{numbered_more, numbered_stop}
 use Rattle.morta_text.proofs.memory_lines.send_arrays.Goals as goal
 
 -- the sink broke off at this array

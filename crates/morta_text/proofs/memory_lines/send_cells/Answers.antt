@@ -1,7 +1,7 @@
 use Rattle.std.proofs.Common.{arith, pos, rules, get_or, ◌∙◌, of_z, to_z, w64}
 use Rattle.std.proofs.lemmas.Result.{err_from_is_err_and}
 use Rattle.morta_text.specs.Texts.{cell_text}
-use Rattle.morta_text.proofs.Numbered.{numbered_more, numbered_stop}
+use Rattle.fate_io.proofs.Numbered.{numbered_more, numbered_stop}
 use Rattle.morta_text.proofs.memory_lines.send_cells.Goals as goal
 
 -- the sink broke off at this cell

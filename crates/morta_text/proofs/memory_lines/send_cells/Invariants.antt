@@ -1,6 +1,7 @@
 use Rattle.std.proofs.Common.{◌≡◌, take}
 use Rattle.std.specs.Io.KnownBytes.{Appends}
-use Rattle.morta_text.specs.Texts.{texts_from, cell_text}
+use Rattle.fate_io.specs.Numbered.{texts_from}
+use Rattle.morta_text.specs.Texts.{cell_text}
 use Rattle.morta_text.proofs.memory_lines.send_cells.Given as goal
 
 -- the lines of the cells so far went out

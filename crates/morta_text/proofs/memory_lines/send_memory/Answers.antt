@@ -1,5 +1,6 @@
 use Rattle.fate_io.proofs.Texts.{sends_both, sends_first}
-use Rattle.morta_text.specs.Texts.{texts_from, var_text, declared_text}
+use Rattle.fate_io.specs.Numbered.{texts_from}
+use Rattle.morta_text.specs.Texts.{var_text, declared_text}
 use Rattle.morta_text.proofs.memory_lines.send_memory.Goals as goal
 
 -- the lines of the variables went out, and then those of the arrays as far as they did

@@ -1,6 +1,7 @@
 use Rattle.std.proofs.Common.{◌≡◌, take}
 use Rattle.std.specs.Io.KnownBytes.{Appends}
-use Rattle.morta_text.specs.Texts.{texts_from, var_text}
+use Rattle.fate_io.specs.Numbered.{texts_from}
+use Rattle.morta_text.specs.Texts.{var_text}
 use Rattle.morta_text.proofs.memory_lines.send_vars.Given as goal
 
 -- the lines of the variables so far went out

@@ -1,4 +1,4 @@
-use Rattle.std.proofs.Common.{◌≡◌, ◌+◌, ◌≤◌, length, arith}
+use Rattle.std.proofs.Common.{◌+◌, ◌≤◌, length, arith}
 use Rattle.nona_tree.specs.Smallness.{all_size, all_nesting}
 use Rattle.nona_gen.proofs.RegionsCode.{regions_code}
 use Rattle.nona_gen.proofs.units.regions_have_code.Goals as goal

@@ -4,6 +4,7 @@ use Rattle.fate_io.specs.Sending.{Sent, sent_since}
 use Rattle.nona_tree.specs.Run.{Ran, meaning_of}
 use Rattle.nona_tree.specs.Memory.{Memory}
 use Rattle.nona_tree.specs.Scope.{AreScoped}
+use Rattle.nona_gen.specs.OfSeen.{planned_image}
 use Rattle.morta_task.specs.Entries.{EntryView}
 use Rattle.morta_task.specs.ImageView.{ImageView}
 use Rattle.morta_task.specs.Legal.{EndsAll, last_in}
@@ -16,14 +17,17 @@ use Rattle.morta_exec.specs.Log.{ServesAll}
 use Rattle.parcae.specs.declared.replays.TheConstants.{CAPACITY}
 use Rattle.parcae.specs.Told.{told_of, finished, once_sent}
 use Rattle.parcae.specs.Ends.{Ends}
-use Rattle.parcae.specs.Due.{replay_image, entries_in, where_asked, behind_numbers, DueOfDrive, drive_ran, drive_unbegun}
+use Rattle.parcae.specs.Files.{AskForSeq}
+use Rattle.weave.specs.declared.script.Command.{Command as Order}
+use Rattle.parcae.specs.Due.{entries_in, where_asked, behind_numbers, DueOfDrive, drive_ran, drive_unbegun}
 use Rattle.parcae.proofs.Ending.{ends_unbegun, ends_behind}
 use Rattle.parcae.proofs.Replaying.{serves_all, beginning, Begins, entries_are, runs_are, stops_of, log_of_run, ends_write, ends_memory, ends_full}
 use Rattle.parcae.proofs.replays.replay_script.Goals as goal
 
 pub drive-requires-clause-serves : goal.drive-requires-clause-serves
 drive-requires-clause-serves g c =
-    subst (λ (i : ImageView). ServesAll weave_promise c.new-weave.result i) (sym c.in-Ok.ensures) (serves_all c.args.program.now c.new-weave.result)
+    subst (λ (i : ImageView). ServesAll weave_promise c.new-weave.result i) (sym c.in-Ok.ensures) (serves_all c.new-weave.result _
+    (subst (λ (script : List Order). AskForSeq script) (sym (ap (λ (w : WeaveView). w.script) c.new-weave.ensures)) c.requires.alone))
 
 pub drive-requires-clause-scoped : goal.drive-requires-clause-scoped
 drive-requires-clause-scoped g c =
@@ -50,7 +54,7 @@ returns-in-Ok-drive g c =
     let n = c.args.asked.turns in
     let log = c.drive.new.log in
     let commands = c.args.script.commands.items in
-    let es = entries_in (replay_image p) p input n in
+    let es = entries_in (planned_image p) p input n in
     let stands = IsScriptReplay CAPACITY commands es in
     let from = beginning c.in-Ok-start.store n in
     let b : Begins p input n commands c.in-Ok.image from c.new-weave.result = record {
@@ -82,7 +86,7 @@ returns-in-Err-WriteFailed g c =
     let n = c.args.asked.turns in
     let log = c.drive.new.log in
     let commands = c.args.script.commands.items in
-    let es = entries_in (replay_image p) p input n in
+    let es = entries_in (planned_image p) p input n in
     let stands = IsScriptReplay CAPACITY commands es in
     let from = beginning c.in-Ok-start.store n in
     let b : Begins p input n commands c.in-Ok.image from c.new-weave.result = record {
@@ -105,7 +109,7 @@ returns-in-Err-NoMemory g c =
     let n = c.args.asked.turns in
     let log = c.drive.new.log in
     let commands = c.args.script.commands.items in
-    let es = entries_in (replay_image p) p input n in
+    let es = entries_in (planned_image p) p input n in
     let stands = IsScriptReplay CAPACITY commands es in
     let from = beginning c.in-Ok-start.store n in
     let b : Begins p input n commands c.in-Ok.image from c.new-weave.result = record {
@@ -129,7 +133,7 @@ returns g c =
     let n = c.args.asked.turns in
     let log = c.drive.new.log in
     let commands = c.args.script.commands.items in
-    let es = entries_in (replay_image p) p input n in
+    let es = entries_in (planned_image p) p input n in
     let stands = IsScriptReplay CAPACITY commands es in
     let from = beginning c.in-Ok-start.store n in
     let b : Begins p input n commands c.in-Ok.image from c.new-weave.result = record {

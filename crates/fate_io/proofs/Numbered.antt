@@ -1,4 +1,4 @@
--- Texts of numbered items that go out to a sink one after another.
+-- Lemmas for callers: texts of numbered items that go out to a sink one after another.
 use Rattle.std.proofs.Common.{◌≡◌, ℕ, ◌+◌, ◌<◌, ◌≤◌, List, [], ◌∷◌, ◌++◌, length, take, drop, get_or, suc, ap, sym, ◌∙◌, subst, append_assoc, append-nil, arith, Err}
 use Rattle.std.proofs.KnownBytes.{Appends-trans}
 use Rattle.std.proofs.lemmas.List.{take-append-drop, take_more, length-take-le}
@@ -8,7 +8,7 @@ use Rattle.std.specs.Io.KnownBytes.{Appends}
 use Rattle.fate_io.specs.Sending.{Sent, BreaksOff}
 use Rattle.fate_io.specs.declared.sending.SendFault.{SendFault}
 use Rattle.fate_io.proofs.Texts.{sends_both, sends_first}
-use Rattle.morta_text.specs.Texts.{texts_from}
+use Rattle.fate_io.specs.Numbered.{texts_from}
 
 -- the texts of a list with another one behind it
 texts-append : {A : Type 0} (part : ℕ → A → List ℕ) (first : ℕ) (xs ys : List A) (behind : ℕ) → behind ≡ first + length xs
