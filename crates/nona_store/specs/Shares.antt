@@ -1,5 +1,5 @@
 -- What one of several tasks sees of a store.
-use Rattle.std.specs.Prelude.{true, false, ℤ, List, None}
+use Rattle.std.specs.Prelude.{true, false, ℤ, List, None, Some}
 use Rattle.nona_tree.specs.Memory.{Memory}
 use Rattle.nona_store.specs.declared.overlay.Place.{Place}
 use Rattle.nona_store.specs.Banks.{Limits}
@@ -14,6 +14,7 @@ pub record ShareView : Type 0 where
 abbrev pub shared : Memory → ShareView → Memory
 shared m share = record { scalars = share.scalars; arrays = arrays_under (over_of share.written) 0 m.arrays; printed = m.printed }
 
--- every cell may be loaded and saved, any number of scalars may stand, and nothing is printed; memory may run out
-abbrev pub cells_allowed : Limits
-cells_allowed = record { loads = λ array place. true; saves = λ array place. true; room = None; prints = false; firm = false }
+-- every cell may be loaded and saved, any number of scalars may stand, and nothing is printed; memory may run out; and what is
+-- written stands beside this store
+abbrev pub cells_allowed : Memory → Limits
+cells_allowed m = record { loads = λ array place. true; saves = λ array place. true; room = None; prints = false; firm = false; base = Some m }

@@ -6,6 +6,7 @@ use crate::overlay::Overlay;
 use crate::store::Store;
 use std::alloc::{AllocError, Global};
 use std::marker::Model;
+use std::mem;
 
 /// A task's share of a store that several tasks compute on: scalars of its own, and the cells that it has written, which stand
 /// beside the store. Contracts see both.
@@ -32,6 +33,14 @@ impl Share {
             scalars,
             overlay: Overlay::begin(alloc),
         }
+    }
+
+    /// Moves the share out, and leaves one without scalars and cells. Takes constant time and no memory.
+    pub fn take(&mut self) -> Share
+        ensures { result ≡ self.old }
+    {
+        let alloc = *self.scalars.allocator();
+        mem::replace(self, Share::begin(alloc, Vec::new(alloc)))
     }
 
     /// The cells that were written.
@@ -99,19 +108,19 @@ impl Share {
 
 /// A store as a task sees it: the task's own scalars, and the store's cells under those that the task has written. Every cell may be
 /// loaded and saved, and nothing may be printed. A load and a save take a time logarithmic in the number of written cells, and a
-/// save goes to the share alone.
+/// save goes to the share alone. It owns the share, which is moved in and out, so that the share is known after any calls.
 #[derive(Drop)]
 pub struct ShareBank<'a> {
     pub store: &'a Store,
-    pub share: &'a mut Share,
+    pub share: Share,
 }
 
 impl<'a> Bank for ShareBank<'a> {
     ghost use Rattle.nona_store.specs.Shares.{shared, cells_allowed};
 
-    ghost state = { λ b. shared b.store.now b.share.now };
+    ghost state = { λ b. shared b.store.now b.share };
 
-    ghost limits = { λ b. cells_allowed };
+    ghost limits = { λ b. cells_allowed b.store.now };
 
     fn scalar(&mut self, id: u32) -> i64 {
         self.share.scalar(id)

@@ -21,7 +21,7 @@ where_done (Err e) P Q R f p q = q
 pub returns-clause-state : goal.returns-clause-state
 returns-clause-state c =
     let m = c.args.self.now.store.now in
-    let old = c.args.self.now.share.now in
+    let old = c.args.self.now.share in
     let new = c.put.new.self in
     let a = c.args.array in
     let at = c.args.index in
