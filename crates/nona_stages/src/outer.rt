@@ -156,9 +156,9 @@ fn seen_by(alloc: Global, marks: Vec<Mark>) -> Result<Vec<Seen>, AllocError>
 }
 
 /// What is seen of the loops of a program, in text order: from outside in, each loop that isn't written `seq for` and whose plan
-/// has a version is a region, and one looks for further loops inside each that is none. The plan of each loop outside regions
-/// is made once. Takes a time quadratic in the units and in the accesses of each loop outside regions, and memory in proportion
-/// to the program. It is refused for want of memory alone.
+/// has a version beside `seq` is a region, and one looks for further loops inside each that is none. The plan of each loop outside
+/// regions that isn't written `seq for` is made once, and where it has no such version, `calm` is asked once more; no loop inside a
+/// region is looked at. All else takes time and memory in proportion to the program. It is refused for want of memory alone.
 pub fn regions(alloc: Global, program: &Checked) -> Result<Vec<Seen>, AllocError>
     ensures { IfOk result (λ seen. seen.items ≡ seen_of program.now) }
 {

@@ -14,10 +14,10 @@ pub struct Region {
 pub enum Plain {
     /// It is written `seq for`.
     Seq,
-    /// It isn't calm: something besides an index, an empty array or the turns of an inner loop may end an iteration early, or an
-    /// index or a bound has no form, so that its iterations can't be told apart.
+    /// It isn't calm: its body has a `while`, a divisor that isn't a number other than 0, an index without `wrap` or a bound without
+    /// an affine form, or too many accesses. So no guard tells beforehand whether an iteration ends early.
     Wild,
-    /// It is calm, but its iterations depend on one another, so that its plan has no version.
+    /// It is calm, but its plan has no version beside `seq`: as far as is told, its iterations depend on one another.
     Tied,
 }
 
