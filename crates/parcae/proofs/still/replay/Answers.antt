@@ -1,5 +1,6 @@
 use Rattle.std.proofs.Common.{refl, subst, ◌∙◌, Some, List, ℕ}
 use Rattle.std.specs.declared.option.Option.{Option}
+use Rattle.std.specs.Option.{option_copied}
 use Rattle.parcae.specs.declared.refusal.Source.TheVariants as source
 use Rattle.parcae.specs.Meant.{task_of}
 use Rattle.parcae.specs.Words.{replay}
@@ -15,7 +16,7 @@ returns-in-Ok-script_in-clause-answers g c =
     let task = task_of c.args.run.now in
     let outside = seen g.S.Shelf.held c.args.shelf.now in
     let program = subst (λ (file : List ℕ). GivesProgram outside file c.in-Ok.program) c.as_str.ensures.value c.in-Ok.ensures.gives in
-    let told = subst (λ (h : List ℕ → Held). GivesInput (record { held = h }) _ c.in-Ok-input_in.input.items) c.in-Ok.ensures.same c.in-Ok-input_in.ensures.gives in
+    let told = subst (λ (h : List ℕ → Held). GivesInput (record { held = h }) (option_copied c.as_deref.result) c.in-Ok-input_in.input.items) c.in-Ok.ensures.same c.in-Ok-input_in.ensures.gives in
     let numbers = subst (λ (file : Option (List ℕ)). GivesInput outside file c.in-Ok-input_in.input.items) c.as_deref.ensures.value told in
     let commands = subst (λ (h : List ℕ → Held). GivesScript (record { held = h }) c.args.script.now c.in-Ok-script_in.script.commands.items) (c.in-Ok-input_in.ensures.same ∙ c.in-Ok.ensures.same) c.in-Ok-script_in.ensures.gives in
     whole_answer (DueOfCommand outside (Some (replay task c.args.script.now c.args.log))) _ _ _ _ _
@@ -29,7 +30,7 @@ returns-in-Ok-input_in-clause-answers g c =
     let outside = seen g.S.Shelf.held c.args.shelf.now in
     let looked = looked_since g.S.Shelf.held g.S.Shelf.failed c.input_in.new.shelf c.script_in.new.shelf in
     let program = subst (λ (file : List ℕ). GivesProgram outside file c.in-Ok.program) c.as_str.ensures.value c.in-Ok.ensures.gives in
-    let told = subst (λ (h : List ℕ → Held). GivesInput (record { held = h }) _ c.in-Ok-input_in.input.items) c.in-Ok.ensures.same c.in-Ok-input_in.ensures.gives in
+    let told = subst (λ (h : List ℕ → Held). GivesInput (record { held = h }) (option_copied c.as_deref.result) c.in-Ok-input_in.input.items) c.in-Ok.ensures.same c.in-Ok-input_in.ensures.gives in
     let numbers = subst (λ (file : Option (List ℕ)). GivesInput outside file c.in-Ok-input_in.input.items) c.as_deref.ensures.value told in
     let none = subst (λ (h : List ℕ → Held). Stopped (IsBad source.Script (record { held = h }) c.args.script.now) looked c.in-Err-script_in.stop) (c.in-Ok-input_in.ensures.same ∙ c.in-Ok.ensures.same) c.in-Err-script_in.ensures.none in
     stopped_answer (DueOfCommand outside (Some (replay task c.args.script.now c.args.log))) (IsBad source.Script outside c.args.script.now) _ looked c.in-Err-script_in.stop _ _
@@ -43,7 +44,7 @@ returns-in-Ok-clause-answers g c =
     let outside = seen g.S.Shelf.held c.args.shelf.now in
     let looked = looked_since g.S.Shelf.held g.S.Shelf.failed c.program_in.new.shelf c.input_in.new.shelf in
     let program = subst (λ (file : List ℕ). GivesProgram outside file c.in-Ok.program) c.as_str.ensures.value c.in-Ok.ensures.gives in
-    let told = subst (λ (h : List ℕ → Held). Stopped (NoInput (record { held = h }) _) looked c.in-Err-input_in.stop) c.in-Ok.ensures.same c.in-Err-input_in.ensures.none in
+    let told = subst (λ (h : List ℕ → Held). Stopped (NoInput (record { held = h }) (option_copied c.as_deref.result)) looked c.in-Err-input_in.stop) c.in-Ok.ensures.same c.in-Err-input_in.ensures.none in
     let none = subst (λ (file : Option (List ℕ)). Stopped (NoInput outside file) looked c.in-Err-input_in.stop) c.as_deref.ensures.value told in
     stopped_answer (DueOfCommand outside (Some (replay task c.args.script.now c.args.log))) (NoInput outside task.input) _ looked c.in-Err-input_in.stop _ _ c.in-Ok.ensures.read
     (λ added x h. follows c.in-Ok.program program (stops x h refl)) (starves refl refl) none c.give_up-in-Err-input_in.ensures
