@@ -8,3 +8,5 @@ pub mod PairLoops
 pub mod BoxLoops
 pub mod AssignedEquations
 pub mod ReferenceEquations
+pub mod Entries
+pub mod Pouring

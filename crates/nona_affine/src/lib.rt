@@ -11,6 +11,8 @@ mod of_expr;
 mod of_loop;
 mod pairs;
 mod ranges;
+mod sums;
+mod tallies;
 mod terms;
 
 pub use assigned::push_all_assigned;
