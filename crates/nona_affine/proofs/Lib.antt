@@ -10,3 +10,6 @@ pub mod AssignedEquations
 pub mod ReferenceEquations
 pub mod Entries
 pub mod Pouring
+pub mod Alike
+pub mod Joining
+pub mod Scaling

@@ -1,5 +1,5 @@
 -- Sums of terms as they are kept while a form is worked out: coefficients by id, and a sign that is put off.
-use Rattle.std.specs.Prelude.{◌≡◌, ◌≤◌, ℕ, ◌==◌, Bool, true, false, if◌then◌else◌, ℤ, pos, negsuc, ◌+ℤ◌, ◌*ℤ◌, List, [], ◌∷◌, All, IsTrue}
+use Rattle.std.specs.Prelude.{◌≡◌, ◌≤◌, ℕ, ◌==◌, Bool, true, false, if◌then◌else◌, ℤ, pos, negsuc, ◌+ℤ◌, ◌*ℤ◌, List, [], ◌∷◌, map, All, IsTrue}
 use Rattle.std.specs.Option.{unwrap_or}
 use Rattle.std.specs.Ordering.{nat_cmp}
 use Rattle.std.specs.Map.{lookup}
@@ -62,3 +62,7 @@ abbrev pub IsPoured : Bool → BTreeMap ℕ ℤ → BTreeMap ℕ ℤ → BTreeMa
 IsPoured turned m from n true =
     ((scalar : ℕ → ℤ) → sum_at scalar n.entries ≡ sum_at scalar m.entries +ℤ signed turned (sum_at scalar from.entries)) × AreUsed n
 IsPoured turned m from n false = IsTooGreat turned m.entries from.entries
+
+-- entries, each coefficient times a number
+abbrev pub scaled : ℤ → List (ℕ × ℤ) → List (ℕ × ℤ)
+scaled k es = map (λ e. (e.0, k *ℤ e.1)) es

@@ -1,9 +1,9 @@
 //! Affine forms that are being worked out.
 
-ghost use Rattle.std.specs.Prelude.{◌≡◌, negsuc, nat_le, length, IfOk, IsTrue};
+ghost use Rattle.std.specs.Prelude.{◌≡◌, ◌+ℤ◌, ◌*ℤ◌, not, if◌then◌else◌, negsuc, nat_le, length, IfOk, IsTrue};
 ghost use Rattle.std.specs.BTreeMap.{btree_map_len};
 ghost use Rattle.nona_forms.specs.declared.limits.TheConstants as limits;
-ghost use Rattle.nona_forms.specs.Affine.{constant_form, if_bounded, no_terms, scalar_form, sum_form, times_form};
+ghost use Rattle.nona_forms.specs.Affine.{constant_form, if_bounded, is_constant, no_terms, scalar_form, sum_form, times_form};
 
 use crate::sums::pour;
 use nona_forms::{TERMS, is_constant};
@@ -40,6 +40,30 @@ fn are_few(coefficients: &BTreeMap<u32, i64>) -> bool
     coefficients.len() <= TERMS
 }
 
+/// The sum of two constants.
+fn summed(left: i128, right: i128) -> i128
+    requires left { IsTrue (is_constant left) }
+    requires right { IsTrue (is_constant right) }
+    ensures { result ≡ left +ℤ right }
+{
+    left + right
+}
+
+/// A constant times -1.
+fn opposite(constant: i128) -> i128
+    requires { IsTrue (is_constant constant) }
+    ensures { result ≡ negsuc 0 *ℤ constant }
+{
+    -constant
+}
+
+/// Whether terms are turned among those of another form.
+fn relative(turned: bool, other: bool) -> bool
+    ensures { result ≡ (if turned then not other else other) }
+{
+    if turned { !other } else { other }
+}
+
 /// The sum of two forms, if it is within bounds; the terms of the second one are moved to those of the first.
 fn join(larger: Tally, smaller: Tally) -> Result<Option<Tally>, AllocError>
     ensures first { IfOk result (λ o. o ≡ if_bounded (sum_form larger smaller)) }
@@ -55,16 +79,21 @@ fn join(larger: Tally, smaller: Tally) -> Result<Option<Tally>, AllocError>
         turned: other,
         coefficients: mut from,
     } = smaller;
-    let sum = constant + more;
-    if is_constant(sum) && pour(&mut into, &mut from, turned != other)? && are_few(&into) {
-        Ok(Some(Tally {
-            constant: sum,
-            turned,
-            coefficients: into,
-        }))
-    } else {
-        Ok(None)
+    let sum = summed(constant, more);
+    if !is_constant(sum) {
+        return Ok(None);
     }
+    if !pour(&mut into, &mut from, relative(turned, other))? {
+        return Ok(None);
+    }
+    if !are_few(&into) {
+        return Ok(None);
+    }
+    Ok(Some(Tally {
+        constant: sum,
+        turned,
+        coefficients: into,
+    }))
 }
 
 impl Tally {
@@ -127,7 +156,7 @@ impl Tally {
             coefficients,
         } = self;
         Tally {
-            constant: -constant,
+            constant: opposite(constant),
             turned: !turned,
             coefficients,
         }
