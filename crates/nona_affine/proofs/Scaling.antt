@@ -1,12 +1,13 @@
 -- A form whose coefficients are taken times a number.
-use Rattle.std.proofs.Common.{◌≡◌, ℕ, zero, suc, ◌≤◌, ◌<◌, ◌*◌, neg_ℤ, Bool, true, false, not, ℤ, pos, negsuc, ◌*ℤ◌, ◌+ℤ◌, List, [], ◌∷◌, map, length, refl, sym, ap, subst, ◌∙◌, arith, if◌then◌else◌, ◌&&◌, Some, None, IsTrue}
+use Rattle.std.proofs.Common.{◌≡◌, ℕ, zero, suc, ◌≤◌, ◌<◌, ◌*◌, neg_ℤ, Bool, true, false, not, ℤ, pos, negsuc, ◌*ℤ◌, ◌+ℤ◌, List, [], ◌∷◌, map, length, refl, sym, ap, subst, cond, ◌∙◌, arith, if◌then◌else◌, ◌&&◌, Some, None, IsTrue, FitsSigned, w64, to_z, of_z}
 use Rattle.std.proofs.Math.Nat.{mul-pos}
 use Rattle.std.proofs.Math.IntN.{zero-*ℤ, *ℤ_comm, negsuc-*ℤ-pos, negsuc-*ℤ-negsuc}
-use Rattle.std.proofs.lemmas.Int.{ints}
+use Rattle.std.proofs.lemmas.Int.{ints, to_z-of_z}
 use Rattle.std.proofs.lemmas.List.Elements.{All-head, All-tail, All-cons, All-nil}
 use Rattle.std.specs.Prelude.{nat_le, All}
 use Rattle.std.specs.List.{list_all}
 use Rattle.std.specs.Map.{keys_of, values_of}
+use Rattle.std.specs.Map.Calls.{RetainsPairs}
 use Rattle.std.specs.BTreeMap.{BTreeMap, btree_map_len}
 use Rattle.nona_num.proofs.Products.{product_assoc}
 use Rattle.nona_tree.specs.Value.{is_zero}
@@ -14,6 +15,8 @@ use Rattle.nona_forms.specs.declared.limits.TheConstants.{TERMS}
 use Rattle.nona_forms.specs.declared.terms.Term.{Term}
 use Rattle.nona_forms.specs.Affine.{Affine, is_coefficient, is_constant, is_bounded, if_bounded, with_term, times_terms, times_form}
 use Rattle.nona_affine.specs.Tallies.{AreUsed, IsUsed, IsTally, signed, terms_in, scaled}
+use Rattle.nona_affine.proofs.Bools.{both_true}
+use Rattle.nona_affine.proofs.Pouring.{coefficient_fits}
 use Rattle.nona_affine.proofs.Alike.{signed_within}
 
 -- a term that isn't 0 stays
@@ -83,3 +86,21 @@ turned_is k o b d m f u h e g =
 pub none_times : (ts : List Term) → times_terms (pos 0) ts ≡ []
 none_times [] = refl
 none_times (t ∷ ts) = ap (λ c. with_term t.id c (times_terms (pos 0) ts)) (zero-*ℤ t.coefficient) ∙ none_times ts
+
+-- products within bounds don't wrap
+pub product_stays : (k v : ℤ) → is_coefficient (k *ℤ v) ≡ true → to_z w64 (of_z w64 (k *ℤ v)) ≡ k *ℤ v
+product_stays k v h = let fits : FitsSigned w64 (k *ℤ v) = coefficient_fits (k *ℤ v) h in to_z-of_z w64 (k *ℤ v) fits
+
+-- what a closure leaves that takes each value times a number
+module _ {F : Type 0} (T : F → ℕ → ℤ → Bool → ℤ → F → Type 0) (k : ℤ) (f : F)
+    (step : (i : ℕ) (v : ℤ) (b : Bool) (w : ℤ) (f' : F) → T f i v b w f' → IsTrue (is_coefficient v) → IsTrue (is_coefficient (k *ℤ v)) → (b ≡ true) × (w ≡ k *ℤ v) × (f' ≡ f)) where
+  kept_more : (e : ℕ × ℤ) (b : Bool) (w : ℤ) (rest more kept : List (ℕ × ℤ)) → b ≡ true → w ≡ k *ℤ e.1 → rest ≡ more → kept ≡ cond b ((e.0, w) ∷ rest) rest → kept ≡ (e.0, k *ℤ e.1) ∷ more
+  kept_more e b w rest more kept h g i j = j ∙ ap (λ x. cond x ((e.0, w) ∷ rest) rest) h ∙ ap (λ x. (e.0, x) ∷ rest) g ∙ ap (λ xs. (e.0, k *ℤ e.1) ∷ xs) i
+
+  pub scaled_from_pairs : (es kept : List (ℕ × ℤ)) → All IsUsed (values_of es) → list_all (λ c. is_coefficient (k *ℤ c)) (values_of es) ≡ true → RetainsPairs T f es kept → kept ≡ scaled k es
+  scaled_from_pairs [] kept u h r = r
+  scaled_from_pairs (e ∷ es) kept u h r =
+      let both = both_true (is_coefficient (k *ℤ e.1)) (list_all (λ c. is_coefficient (k *ℤ c)) (values_of es)) h in
+      let a = step e.0 e.1 r.0 r.1 r.2 r.4 (All-head IsUsed e.1 (values_of es) u).within both.0 in
+      let rest = scaled_from_pairs es r.3 (All-tail IsUsed e.1 (values_of es) u) both.1 (subst (λ g. RetainsPairs T g es r.3) a.2 r.5) in
+      kept_more e r.0 r.1 r.3 (scaled k es) kept a.0 a.1 rest r.6

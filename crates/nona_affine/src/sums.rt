@@ -1,9 +1,12 @@
 //! Coefficients by id, to which terms are added.
 
 ghost use Rattle.std.specs.Prelude.{◌≡◌, ◌+ℤ◌, ◌*ℤ◌, ℕ, ℤ, OnOk, IfOk, IsTrue};
+ghost use Rattle.std.specs.List.{list_all};
+ghost use Rattle.std.specs.Ordering.{nat_cmp};
+ghost use Rattle.std.specs.BTreeMap.{values, IsOrdered};
 ghost use Rattle.nona_tree.specs.Value.{is_zero};
 ghost use Rattle.nona_forms.specs.Affine.{is_coefficient};
-ghost use Rattle.nona_affine.specs.Tallies.{AreUsed, IsAdded, IsPoured, signed, sum_at, value_at};
+ghost use Rattle.nona_affine.specs.Tallies.{AreUsed, IsAdded, IsPoured, scaled, signed, sum_at, value_at};
 
 use nona_forms::is_coefficient;
 use std::alloc::AllocError;
@@ -96,4 +99,38 @@ pub fn pour(
         }
     }
     Ok(true)
+}
+
+/// A number times a coefficient.
+fn product(factor: i64, coefficient: i64) -> i128
+    ensures { result ≡ factor *ℤ coefficient }
+{
+    factor as i128 * coefficient as i128
+}
+
+/// Whether all coefficients are within bounds when each is taken times a number.
+pub fn can_scale(sums: &BTreeMap<u32, i64>, factor: i64) -> bool
+    ensures { result ≡ list_all (λ c. is_coefficient (factor *ℤ c)) (values sums.now) }
+{
+    sums.values().all(|c| is_coefficient(product(factor, *c)))
+}
+
+/// A number times a coefficient, where that is within bounds.
+fn multiple(factor: i64, coefficient: i64) -> i64
+    ensures { IsTrue (is_coefficient (factor *ℤ coefficient)) → result ≡ factor *ℤ coefficient }
+{
+    factor.wrapping_mul(coefficient)
+}
+
+/// Takes each coefficient times a number. The products have to be within bounds.
+pub fn scale(sums: &mut BTreeMap<u32, i64>, factor: i64)
+    requires used { AreUsed sums.old }
+    requires within { IsTrue (list_all (λ c. is_coefficient (factor *ℤ c)) (values sums.old)) }
+    ensures entries { sums.new.entries ≡ scaled factor sums.old.entries }
+    ensures rising { IsOrdered nat_cmp sums.new }
+{
+    sums.retain(|_, c| {
+        *c = multiple(factor, *c);
+        true
+    });
 }
