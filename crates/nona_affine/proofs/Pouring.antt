@@ -1,5 +1,5 @@
 -- Entries that are moved from one map into another one.
-use Rattle.std.proofs.Common.{◌≡◌, ℕ, ◌==◌, Bool, true, false, ℤ, pos, negsuc, ◌*ℤ◌, ◌+ℤ◌, List, [], ◌∷◌, map, refl, sym, ap, subst, ◌∙◌, arith, if◌then◌else◌, Some, None, cond, IsTrue, FitsSigned, w64}
+use Rattle.std.proofs.Common.{◌≡◌, ℕ, ◌==◌, Bool, true, false, ℤ, pos, negsuc, ◌*ℤ◌, ◌+ℤ◌, List, [], ◌∷◌, ◌++◌, append_assoc, map, refl, sym, ap, subst, ◌∙◌, arith, if◌then◌else◌, Some, None, cond, IsTrue, FitsSigned, w64}
 use Rattle.std.proofs.Math.IntN.{zero-*ℤ, *ℤ-zero, +ℤ_idl, +ℤ_idr, +ℤ_assoc}
 use Rattle.std.proofs.lemmas.Int.{ints}
 use Rattle.std.proofs.lemmas.List.Elements.{All-head, All-tail}
@@ -16,8 +16,9 @@ use Rattle.std.specs.Map.{keys_of, lookup}
 use Rattle.std.specs.BTreeMap.{BTreeMap, is_at}
 use Rattle.nona_num.proofs.Products.{product_assoc}
 use Rattle.nona_forms.proofs.Sums.{times_sum}
+use Rattle.nona_forms.specs.declared.terms.Term.{Term}
 use Rattle.nona_forms.specs.Affine.{is_coefficient}
-use Rattle.nona_affine.specs.Tallies.{AreUsed, IsUsed, IsAdded, IsTooGreat, sum_at, value_at, one_alone, signed}
+use Rattle.nona_affine.specs.Tallies.{AreUsed, IsUsed, IsAdded, IsTooGreat, sum_at, value_at, one_alone, signed, terms_in}
 
 -- a sign may be put off
 pub signed_sum : (b : Bool) (x y : ℤ) → signed b (x +ℤ y) ≡ signed b x +ℤ signed b y
@@ -99,3 +100,13 @@ pour_stops b m n into from rest k c u v h i far =
     let left : sum_at s into.entries ≡ value_at k into.entries = sum_one k into.entries u.rising in
     let right : sum_at s from.entries ≡ c = sum_one k from.entries v.rising ∙ ap (value_at k) h ∙ first_value k c rest in
     record { id = k; far = ap is_coefficient (sym (i s) ∙ ap (λ x. x +ℤ signed b (sum_at s from.entries)) left ∙ ap (λ x. value_at k into.entries +ℤ signed b x) right) ∙ far }
+
+-- a term that leaves a map for a list
+pub list_step : (b : Bool) (terms after all : List Term) (from rest : List (ℕ × ℤ)) (k : ℕ) (c v : ℤ) → from ≡ (k, c) ∷ rest → v ≡ signed b c → after ≡ terms ++ (record { id = k; coefficient = v } ∷ []) → terms ++ terms_in b from ≡ all
+    → after ++ terms_in b rest ≡ all
+list_step b terms after all from rest k c v h g i j =
+    ap (λ ts. ts ++ terms_in b rest) i
+    ∙ append_assoc terms (record { id = k; coefficient = v } ∷ []) (terms_in b rest)
+    ∙ ap (λ x. terms ++ (record { id = k; coefficient = x } ∷ terms_in b rest)) g
+    ∙ ap (λ es. terms ++ terms_in b es) (sym h)
+    ∙ j

@@ -6,10 +6,10 @@ ghost use Rattle.std.specs.Ordering.{nat_cmp};
 ghost use Rattle.std.specs.BTreeMap.{values, IsOrdered};
 ghost use Rattle.nona_tree.specs.Value.{is_zero};
 ghost use Rattle.nona_forms.specs.Affine.{is_coefficient};
-ghost use Rattle.nona_affine.specs.Tallies.{AreUsed, IsAdded, IsPoured, scaled, signed, sum_at, value_at};
+ghost use Rattle.nona_affine.specs.Tallies.{AreUsed, IsAdded, IsPoured, scaled, signed, sum_at, terms_in, value_at};
 
-use nona_forms::is_coefficient;
-use std::alloc::AllocError;
+use nona_forms::{Term, is_coefficient};
+use std::alloc::{AllocError, Global};
 use std::collections::BTreeMap;
 
 /// The coefficient of a scalar, 0 where it has none.
@@ -23,7 +23,7 @@ fn value(sums: &BTreeMap<u32, i64>, id: u32) -> i64
 }
 
 /// Whether a coefficient is 0.
-fn is_zero(value: i64) -> bool
+pub fn is_zero(value: i64) -> bool
     ensures { result ≡ is_zero value }
 {
     value == 0
@@ -133,4 +133,23 @@ pub fn scale(sums: &mut BTreeMap<u32, i64>, factor: i64)
         *c = multiple(factor, *c);
         true
     });
+}
+
+/// Moves the terms to a list, in order of id, each with its opposite where that is asked for.
+pub fn listed(
+    alloc: Global,
+    sums: &mut BTreeMap<u32, i64>,
+    turned: bool,
+) -> Result<Vec<Term>, AllocError>
+    requires { AreUsed sums.old }
+    ensures { IfOk result (λ terms. terms.items ≡ terms_in turned sums.old.entries) }
+{
+    let mut terms = Vec::new(alloc);
+    while let Some((id, coefficient)) = sums.pop_first() {
+        terms.push(Term {
+            id,
+            coefficient: signed(turned, coefficient),
+        })?;
+    }
+    Ok(terms)
 }

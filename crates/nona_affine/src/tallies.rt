@@ -1,12 +1,13 @@
 //! Affine forms that are being worked out.
 
-ghost use Rattle.std.specs.Prelude.{◌≡◌, ◌+ℤ◌, ◌*ℤ◌, not, if◌then◌else◌, negsuc, nat_le, length, IfOk, IsTrue};
+ghost use Rattle.std.specs.Prelude.{◌≡◌, ◌+ℤ◌, ◌*ℤ◌, not, if◌then◌else◌, negsuc, pos, nat_le, length, true, false, Some, IfOk, IsTrue};
 ghost use Rattle.std.specs.BTreeMap.{btree_map_len};
+ghost use Rattle.nona_tree.specs.Value.{is_zero};
 ghost use Rattle.nona_forms.specs.declared.limits.TheConstants as limits;
 ghost use Rattle.nona_forms.specs.Affine.{constant_form, if_bounded, is_constant, no_terms, scalar_form, sum_form, times_form};
 
-use crate::sums::pour;
-use nona_forms::{TERMS, is_constant};
+use crate::sums::{can_scale, is_zero, listed, pour, scale};
+use nona_forms::{Form, TERMS, is_constant};
 use std::alloc::{AllocError, Global};
 use std::collections::BTreeMap;
 use std::marker::Model;
@@ -55,6 +56,14 @@ fn opposite(constant: i128) -> i128
     ensures { result ≡ negsuc 0 *ℤ constant }
 {
     -constant
+}
+
+/// A number times a constant.
+fn multiplied(factor: i64, constant: i128) -> i128
+    requires { IsTrue (is_constant constant) }
+    ensures { result ≡ factor *ℤ constant }
+{
+    factor as i128 * constant
 }
 
 /// Whether terms are turned among those of another form.
@@ -146,9 +155,10 @@ impl Tally {
         self.coefficients.len()
     }
 
-    /// The opposite.
+    /// The opposite, which is within bounds.
     pub fn turned(self) -> Tally
-        ensures { result ≡ times_form (negsuc 0) self }
+        ensures opposite { result ≡ times_form (negsuc 0) self }
+        ensures bounded { if_bounded (times_form (negsuc 0) self) ≡ Some result }
     {
         let Tally {
             constant,
@@ -162,6 +172,61 @@ impl Tally {
         }
     }
 
+    /// Itself, as its own product with 1.
+    fn once(self) -> Tally
+        ensures { if_bounded (times_form (pos 1) self) ≡ Some result }
+    {
+        let Tally {
+            constant,
+            turned,
+            coefficients,
+        } = self;
+        Tally {
+            constant,
+            turned,
+            coefficients,
+        }
+    }
+
+    /// The product with a number other than 0, if it is within bounds.
+    fn multiple(self, factor: i64) -> Option<Tally>
+        requires { is_zero factor ≡ false }
+        ensures { result ≡ if_bounded (times_form factor self) }
+    {
+        let Tally {
+            constant,
+            turned,
+            mut coefficients,
+        } = self;
+        let product = multiplied(factor, constant);
+        if !is_constant(product) {
+            return None;
+        }
+        if !can_scale(&coefficients, factor) {
+            return None;
+        }
+        scale(&mut coefficients, factor);
+        Some(Tally {
+            constant: product,
+            turned,
+            coefficients,
+        })
+    }
+
+    /// The product with a number, if it is within bounds.
+    pub fn times(self, alloc: Global, factor: i64) -> Option<Tally>
+        ensures { result ≡ if_bounded (times_form factor self) }
+    {
+        if is_zero(factor) {
+            return Tally::of_number(alloc, 0);
+        }
+        match factor {
+            1 => Some(self.once()),
+            -1 => Some(self.turned()),
+            _ => self.multiple(factor),
+        }
+    }
+
     /// The sum, if it is within bounds. The one error is that memory ran out.
     pub fn plus(self, other: Tally) -> Result<Option<Tally>, AllocError>
         ensures { IfOk result (λ o. o ≡ if_bounded (sum_form self other)) }
@@ -171,5 +236,25 @@ impl Tally {
         } else {
             join(self, other)
         }
+    }
+
+    /// A form less another one, if it is within bounds. The one error is that memory ran out.
+    pub fn minus(self, other: Tally) -> Result<Option<Tally>, AllocError>
+        ensures { IfOk result (λ o. o ≡ if_bounded (sum_form self (times_form (negsuc 0) other))) }
+    {
+        self.plus(other.turned())
+    }
+
+    /// The form itself. The one error is that memory ran out.
+    pub fn into_form(self, alloc: Global) -> Result<Form, AllocError>
+        ensures { IfOk result (λ f. f ≡ self) }
+    {
+        let Tally {
+            constant,
+            turned,
+            mut coefficients,
+        } = self;
+        let terms = listed(alloc, &mut coefficients, turned)?;
+        Form::of(alloc, constant, terms)
     }
 }
