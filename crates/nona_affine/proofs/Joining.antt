@@ -89,6 +89,22 @@ pub tally_bounded : (k : ℤ) (b : Bool) (m : BTreeMap ℕ ℤ) → is_constant 
 tally_bounded k b m h g u =
     three_true (form_in k b m) (is_constant k) (nat_le (length (terms_in b m.entries)) TERMS) (list_all (λ (t : Term). is_coefficient t.coefficient) (terms_in b m.entries)) h (ap (λ x. nat_le x TERMS) (length_in b m.entries) ∙ g) (all_within b m.entries u.all)
 
+-- a map's terms, listed, are within a form's bounds
+and_three : (a b c : Bool) → a ≡ true → b ≡ true → c ≡ true → (a && (b && c)) ≡ true
+and_three true true true h g k = refl
+and_three true true false h g k = cc
+and_three true false c h g k = cc
+and_three false b c h g k = cc
+
+few_is : (n : ℕ) → n ≤ TERMS → nat_le n TERMS ≡ true
+few_is n h = grind arith
+
+pub listed_bounded : (k j : ℤ) (b : Bool) (m : BTreeMap ℕ ℤ) (ts : List Term) → IsTally k m → j ≡ k → ts ≡ terms_in b m.entries → IsTrue (is_bounded (record { constant = j; terms = ts }))
+listed_bounded k j b m ts h e g =
+    ap (λ x. is_bounded (record { constant = x; terms = ts })) e ∙ ap (λ xs. is_bounded (record { constant = k; terms = xs })) g
+    ∙ and_three (is_constant k) (nat_le (length (terms_in b m.entries)) TERMS) (list_all (λ (t : Term). is_coefficient t.coefficient) (terms_in b m.entries)) h.constant
+        (ap (λ n. nat_le n TERMS) (length_in b m.entries) ∙ few_is (btree_map_len m) h.few) (all_within b m.entries h.used.all)
+
 -- the sum where it is within bounds
 join_is : (a c k : ℤ) (b o : Bool) (m n r : BTreeMap ℕ ℤ) → IsTally a m → IsTally c n → k ≡ a +ℤ c → is_constant k ≡ true → IsPoured (relative b o) m n r true → nat_le (btree_map_len r) TERMS ≡ true
     → Some (form_in k b r) ≡ if_bounded (sum_form (form_in a b m) (form_in c o n))

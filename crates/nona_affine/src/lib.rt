@@ -13,7 +13,6 @@ mod pairs;
 mod ranges;
 mod sums;
 mod tallies;
-mod terms;
 
 pub use assigned::push_all_assigned;
 pub use boxes::add_times;

@@ -134,11 +134,11 @@ impl Tally {
         })
     }
 
-    /// The constant.
-    pub fn constant(&self) -> i128
+    /// The constant, as a number of 64 bits.
+    pub fn factor(&self) -> i64
         ensures { result ≡ self.now.constant }
     {
-        self.constant
+        self.constant as i64
     }
 
     /// Whether it has no terms.
