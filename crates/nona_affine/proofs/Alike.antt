@@ -1,5 +1,5 @@
 -- Terms in order of id, each id once and none of them 0, are known by what they add up to.
-use Rattle.std.proofs.Common.{◌≡◌, ℕ, suc, ◌≤◌, ◌<◌, ◌==◌, Bool, true, false, ℤ, pos, negsuc, ◌*ℤ◌, ◌+ℤ◌, List, [], ◌∷◌, map, length, refl, sym, ap, subst, ◌∙◌, arith, if◌then◌else◌, nat_lt, ◌&&◌}
+use Rattle.std.proofs.Common.{◌≡◌, ℕ, suc, ◌≤◌, ◌<◌, ◌==◌, Bool, true, false, ℤ, pos, negsuc, ◌*ℤ◌, ◌+ℤ◌, List, [], ◌∷◌, length, refl, sym, ap, subst, ◌∙◌, arith, if◌then◌else◌, nat_lt}
 use Rattle.std.proofs.Math.IntN.{*ℤ-zero, +ℤ_idl, +ℤ_idr}
 use Rattle.std.proofs.lemmas.Int.{ints}
 use Rattle.std.proofs.lemmas.List.Elements.{All-head, All-tail}
@@ -15,8 +15,8 @@ use Rattle.nona_forms.specs.declared.terms.Term.{Term}
 use Rattle.nona_forms.specs.Affine.{is_coefficient, terms_at}
 use Rattle.nona_forms.proofs.Ordered.{RisesFrom}
 use Rattle.nona_affine.specs.Tallies.{IsUsed, sum_at, one_alone, signed, terms_in}
-use Rattle.nona_affine.proofs.Bools.{both_true}
-use Rattle.nona_affine.proofs.Pouring.{signed_sum, signed_times}
+use Rattle.nona_affine.proofs.Bools.{both_are, both_true}
+use Rattle.nona_affine.proofs.Pouring.{signed_sum, signed_times, times_one}
 
 same_test : (i k : ℕ) → i ≡ k → (i == k) ≡ true
 same_test i k h = grind arith
@@ -26,9 +26,6 @@ other_test i k h = grind arith
 
 test_is : (i k : ℕ) → (i == k) ≡ true → i ≡ k
 test_is i k h = grind arith
-
-times_one : (a : ℤ) → a *ℤ pos 1 ≡ a
-times_one a = omega (arith, ints)
 
 -- a term and others, where one scalar is 1 and the others are 0
 here : (k : ℕ) (t : Term) (ts : List Term) → (t.id == k) ≡ true → terms_at (one_alone k) ts ≡ pos 0 → terms_at (one_alone k) (t ∷ ts) ≡ t.coefficient
@@ -114,7 +111,7 @@ all_above : (k : ℕ) (ks : List ℕ) → AllByRecursion (λ y. nat_cmp k y ≡ 
 all_above k [] h = tt
 all_above k (i ∷ ks) h = (above_is k i h.0, all_above k ks h.1)
 
-signed_used : (b : Bool) (c : ℤ) → is_zero c ≡ false → is_zero (signed b c) ≡ false
+pub signed_used : (b : Bool) (c : ℤ) → is_zero c ≡ false → is_zero (signed b c) ≡ false
 signed_used true c h = grind (arith, ints)
 signed_used false c h = h
 
@@ -142,11 +139,6 @@ at_terms s b (e ∷ es) =
 pub signed_within : (b : Bool) (c : ℤ) → is_coefficient (signed b c) ≡ is_coefficient c
 signed_within true c = grind (arith, ints)
 signed_within false c = refl
-
-both_are : (a b : Bool) → a ≡ true → b ≡ true → (a && b) ≡ true
-both_are true true h g = refl
-both_are true false h g = g
-both_are false b h g = h
 
 pub all_within : (b : Bool) (es : List (ℕ × ℤ)) → All IsUsed (values_of es) → list_all (λ (t : Term). is_coefficient t.coefficient) (terms_in b es) ≡ true
 all_within b [] h = refl

@@ -1,5 +1,5 @@
 -- A form whose terms were moved to those of another one is the sum of both.
-use Rattle.std.proofs.Common.{◌≡◌, ℕ, suc, ◌≤◌, Bool, true, false, not, ℤ, pos, negsuc, ◌*ℤ◌, ◌+ℤ◌, List, [], ◌∷◌, length, refl, sym, ap, subst, ◌∙◌, arith, if◌then◌else◌, ◌&&◌, Some, None, IsTrue, FitsSigned}
+use Rattle.std.proofs.Common.{◌≡◌, ℕ, ◌≤◌, Bool, true, false, not, ℤ, negsuc, ◌*ℤ◌, ◌+ℤ◌, List, length, refl, sym, ap, subst, ◌∙◌, arith, if◌then◌else◌, ◌&&◌, Some, None, IsTrue, FitsSigned}
 use Rattle.std.proofs.lemmas.Int.{ints}
 use Rattle.std.specs.declared.option.Option.{Option}
 use Rattle.std.specs.Prelude.{nat_le}
@@ -12,6 +12,7 @@ use Rattle.nona_forms.specs.Affine.{Affine, is_coefficient, is_constant, is_boun
 use Rattle.nona_forms.proofs.Ordered.{RisesFrom, sum_rises}
 use Rattle.nona_forms.proofs.Sums.{at_sum}
 use Rattle.nona_affine.specs.Tallies.{AreUsed, IsPoured, IsTally, IsTooGreat, one_alone, signed, sum_at, terms_in}
+use Rattle.nona_affine.proofs.Bools.{both_are}
 use Rattle.nona_affine.proofs.Pouring.{signed_sum}
 use Rattle.nona_affine.proofs.Alike.{alike, all_within, at_terms, length_in, rises, signed_within, within_at}
 
@@ -27,7 +28,7 @@ form_in k b m = record { constant = k; terms = terms_in b m.entries }
 abbrev pub relative : Bool → Bool → Bool
 relative b o = if b then not o else o
 
-twice : (y : ℤ) → negsuc 0 *ℤ (negsuc 0 *ℤ y) ≡ y
+pub twice : (y : ℤ) → negsuc 0 *ℤ (negsuc 0 *ℤ y) ≡ y
 twice y = omega (arith, ints)
 
 signs : (b o : Bool) (x y : ℤ) → signed b (x +ℤ signed (relative b o) y) ≡ signed b x +ℤ signed o y
@@ -52,7 +53,7 @@ in_order b m h = rises b m.entries h.rising h.all
 terms_are : (b o : Bool) (m n r : BTreeMap ℕ ℤ) → AreUsed m → AreUsed n → IsPoured (relative b o) m n r true → terms_in b r.entries ≡ sum_terms (terms_in b m.entries) (terms_in o n.entries)
 terms_are b o m n r h g k =
     alike 0 (terms_in b r.entries) (sum_terms (terms_in b m.entries) (terms_in o n.entries)) (in_order b r k.1) (sum_rises 0 (terms_in b m.entries) (terms_in o n.entries) (in_order b m h) (in_order o n g))
-      (λ s. added s b o m n r (k.0 s) ∙ sym (at_sum s (terms_in b m.entries) (terms_in o n.entries)))
+    (λ s. added s b o m n r (k.0 s) ∙ sym (at_sum s (terms_in b m.entries) (terms_in o n.entries)))
 
 sums_alike : (ts us : List Term) → RisesFrom 0 ts → RisesFrom 0 us → sum_terms ts us ≡ sum_terms us ts
 sums_alike ts us h g =
@@ -69,7 +70,7 @@ three_true f true true false h g k = cc
 three_true f true false c h g k = cc
 three_true f false b c h g k = cc
 
-none_first : (f : Affine) (a b : Bool) → a ≡ false → (if (a && b) then Some f else None) ≡ None
+pub none_first : (f : Affine) (a b : Bool) → a ≡ false → (if (a && b) then Some f else None) ≡ None
 none_first f true b h = cc
 none_first f false b h = refl
 
@@ -78,7 +79,7 @@ none_second f true true c h = cc
 none_second f true false c h = refl
 none_second f false b c h = refl
 
-none_third : (f : Affine) (a b c : Bool) → (c ≡ true → false ≡ true) → (if (a && (b && c)) then Some f else None) ≡ None
+pub none_third : (f : Affine) (a b c : Bool) → (c ≡ true → false ≡ true) → (if (a && (b && c)) then Some f else None) ≡ None
 none_third f true true true h = let no_way = h refl in cc
 none_third f true true false h = refl
 none_third f true false c h = refl
@@ -90,20 +91,13 @@ tally_bounded k b m h g u =
     three_true (form_in k b m) (is_constant k) (nat_le (length (terms_in b m.entries)) TERMS) (list_all (λ (t : Term). is_coefficient t.coefficient) (terms_in b m.entries)) h (ap (λ x. nat_le x TERMS) (length_in b m.entries) ∙ g) (all_within b m.entries u.all)
 
 -- a map's terms, listed, are within a form's bounds
-and_three : (a b c : Bool) → a ≡ true → b ≡ true → c ≡ true → (a && (b && c)) ≡ true
-and_three true true true h g k = refl
-and_three true true false h g k = cc
-and_three true false c h g k = cc
-and_three false b c h g k = cc
-
-few_is : (n : ℕ) → n ≤ TERMS → nat_le n TERMS ≡ true
+pub few_is : (n : ℕ) → n ≤ TERMS → nat_le n TERMS ≡ true
 few_is n h = grind arith
 
 pub listed_bounded : (k j : ℤ) (b : Bool) (m : BTreeMap ℕ ℤ) (ts : List Term) → IsTally k m → j ≡ k → ts ≡ terms_in b m.entries → IsTrue (is_bounded (record { constant = j; terms = ts }))
 listed_bounded k j b m ts h e g =
     ap (λ x. is_bounded (record { constant = x; terms = ts })) e ∙ ap (λ xs. is_bounded (record { constant = k; terms = xs })) g
-    ∙ and_three (is_constant k) (nat_le (length (terms_in b m.entries)) TERMS) (list_all (λ (t : Term). is_coefficient t.coefficient) (terms_in b m.entries)) h.constant
-        (ap (λ n. nat_le n TERMS) (length_in b m.entries) ∙ few_is (btree_map_len m) h.few) (all_within b m.entries h.used.all)
+    ∙ both_are _ _ h.constant (both_are _ _ (ap (λ n. nat_le n TERMS) (length_in b m.entries) ∙ few_is (btree_map_len m) h.few) (all_within b m.entries h.used.all))
 
 -- the sum where it is within bounds
 join_is : (a c k : ℤ) (b o : Bool) (m n r : BTreeMap ℕ ℤ) → IsTally a m → IsTally c n → k ≡ a +ℤ c → is_constant k ≡ true → IsPoured (relative b o) m n r true → nat_le (btree_map_len r) TERMS ≡ true
@@ -124,7 +118,7 @@ no_coefficient a c b o m n h g far =
     let us = terms_in o n.entries in
     let s = one_alone far.id in
     let at : terms_at s (sum_terms ts us) ≡ signed b (sum_at s m.entries +ℤ signed (relative b o) (sum_at s n.entries)) =
-        at_sum s ts us ∙ ap (λ x. x +ℤ terms_at s us) (at_terms s b m.entries) ∙ ap (λ x. signed b (sum_at s m.entries) +ℤ x) (at_terms s o n.entries) ∙ sym (signs b o (sum_at s m.entries) (sum_at s n.entries)) in
+    at_sum s ts us ∙ ap (λ x. x +ℤ terms_at s us) (at_terms s b m.entries) ∙ ap (λ x. signed b (sum_at s m.entries) +ℤ x) (at_terms s o n.entries) ∙ sym (signs b o (sum_at s m.entries) (sum_at s n.entries)) in
     let out : is_coefficient (terms_at s (sum_terms ts us)) ≡ false = ap is_coefficient at ∙ signed_within b (sum_at s m.entries +ℤ signed (relative b o) (sum_at s n.entries)) ∙ far.far in
     sym (none_third (sum_form (form_in a b m) (form_in c o n)) _ _ _ (λ all. sym out ∙ within_at far.id 0 (sum_terms ts us) (sum_rises 0 ts us (in_order b m h.used) (in_order o n g.used)) all))
 

@@ -1,13 +1,12 @@
 -- Entries that are moved from one map into another one.
 use Rattle.std.proofs.Common.{◌≡◌, ℕ, ◌==◌, Bool, true, false, ℤ, pos, negsuc, ◌*ℤ◌, ◌+ℤ◌, List, [], ◌∷◌, ◌++◌, append_assoc, map, refl, sym, ap, subst, ◌∙◌, arith, if◌then◌else◌, Some, None, cond, IsTrue, FitsSigned, w64}
-use Rattle.std.proofs.Math.IntN.{zero-*ℤ, *ℤ-zero, +ℤ_idl, +ℤ_idr, +ℤ_assoc}
+use Rattle.std.proofs.Math.IntN.{*ℤ-zero, +ℤ_idl, +ℤ_idr, +ℤ_assoc}
 use Rattle.std.proofs.lemmas.Int.{ints}
 use Rattle.std.proofs.lemmas.List.Elements.{All-head, All-tail}
 use Rattle.std.proofs.lemmas.Map.Keys.{sorted_head, sorted_tail}
 use Rattle.std.specs.Prelude.{All}
 use Rattle.std.specs.declared.cmp.Ordering.{Ordering}
-use Rattle.std.specs.declared.cmp.Ordering.TheVariants.{Less, Equal, Greater}
-use Rattle.std.specs.declared.option.Option.{Option}
+use Rattle.std.specs.declared.cmp.Ordering.TheVariants.{Less}
 use Rattle.std.specs.Option.{unwrap_or}
 use Rattle.std.specs.Ordering.{nat_cmp, is_eq}
 use Rattle.std.specs.List.{AllByRecursion}
@@ -18,7 +17,7 @@ use Rattle.nona_num.proofs.Products.{product_assoc}
 use Rattle.nona_forms.proofs.Sums.{times_sum}
 use Rattle.nona_forms.specs.declared.terms.Term.{Term}
 use Rattle.nona_forms.specs.Affine.{is_coefficient}
-use Rattle.nona_affine.specs.Tallies.{AreUsed, IsUsed, IsAdded, IsTooGreat, sum_at, value_at, one_alone, signed, terms_in}
+use Rattle.nona_affine.specs.Tallies.{AreUsed, IsUsed, IsTooGreat, sum_at, value_at, one_alone, signed, terms_in}
 
 -- a sign may be put off
 pub signed_sum : (b : Bool) (x y : ℤ) → signed b (x +ℤ y) ≡ signed b x +ℤ signed b y
@@ -43,7 +42,7 @@ same_test a b = grind arith
 equal_is : (a b : ℕ) → is_eq (nat_cmp a b) ≡ true → a ≡ b
 equal_is a b h = grind arith
 
-times_one : (a : ℤ) → a *ℤ pos 1 ≡ a
+pub times_one : (a : ℤ) → a *ℤ pos 1 ≡ a
 times_one a = omega (arith, ints)
 
 one_at : (k : ℕ) (e : ℕ × ℤ) (es : List (ℕ × ℤ)) (b : Bool) → (b ≡ true → lookup (is_at (nat_cmp k)) es ≡ None) → sum_at (one_alone k) es ≡ value_at k es

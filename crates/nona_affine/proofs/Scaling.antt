@@ -1,12 +1,12 @@
 -- A form whose coefficients are taken times a number.
-use Rattle.std.proofs.Common.{◌≡◌, ℕ, zero, suc, ◌≤◌, ◌<◌, ◌*◌, neg_ℤ, Bool, true, false, not, ℤ, pos, negsuc, ◌*ℤ◌, ◌+ℤ◌, List, [], ◌∷◌, map, length, refl, sym, ap, subst, cond, ◌∙◌, arith, if◌then◌else◌, ◌&&◌, Some, None, IsTrue, FitsSigned, w64, to_z, of_z}
+use Rattle.std.proofs.Common.{◌≡◌, ℕ, zero, suc, ◌≤◌, ◌<◌, ◌*◌, neg_ℤ, Bool, true, false, not, ℤ, pos, negsuc, ◌*ℤ◌, List, [], ◌∷◌, length, refl, sym, ap, subst, cond, ◌∙◌, arith, if◌then◌else◌, ◌&&◌, Some, None, IsTrue, FitsSigned, w64, to_z, of_z}
 use Rattle.std.proofs.Math.Nat.{mul-pos}
 use Rattle.std.proofs.Math.IntN.{zero-*ℤ, *ℤ_comm, negsuc-*ℤ-pos, negsuc-*ℤ-negsuc}
 use Rattle.std.proofs.lemmas.Int.{ints, to_z-of_z}
 use Rattle.std.proofs.lemmas.List.Elements.{All-head, All-tail, All-cons, All-nil}
-use Rattle.std.specs.Prelude.{nat_le, All, ◌↔◌}
+use Rattle.std.specs.Prelude.{All, ◌↔◌}
 use Rattle.std.specs.List.{list_all}
-use Rattle.std.specs.Map.{keys_of, values_of}
+use Rattle.std.specs.Map.{values_of}
 use Rattle.std.specs.Map.Calls.{RetainsPairs}
 use Rattle.std.specs.Ordering.{nat_cmp}
 use Rattle.std.specs.BTreeMap.{BTreeMap, btree_map_len, values, IsOrdered}
@@ -14,12 +14,12 @@ use Rattle.nona_num.proofs.Products.{product_assoc}
 use Rattle.nona_tree.specs.Value.{is_zero}
 use Rattle.nona_forms.specs.declared.limits.TheConstants.{TERMS}
 use Rattle.nona_forms.specs.declared.terms.Term.{Term}
-use Rattle.nona_forms.specs.Affine.{Affine, is_coefficient, is_constant, is_bounded, if_bounded, no_terms, with_term, times_terms, times_form}
+use Rattle.nona_forms.specs.Affine.{Affine, is_coefficient, is_constant, if_bounded, no_terms, with_term, times_terms, times_form}
 use Rattle.nona_affine.specs.Tallies.{AreUsed, IsUsed, IsTally, signed, terms_in, scaled}
 use Rattle.nona_affine.proofs.Bools.{both_true}
 use Rattle.nona_affine.proofs.Pouring.{coefficient_fits}
-use Rattle.nona_affine.proofs.Alike.{signed_within}
-use Rattle.nona_affine.proofs.Joining.{form_in, tally_bounded}
+use Rattle.nona_affine.proofs.Alike.{signed_used, signed_within}
+use Rattle.nona_affine.proofs.Joining.{few_is, form_in, none_first, none_third, tally_bounded, twice}
 
 -- a term that isn't 0 stays
 with_used : (id : ℕ) (c : ℤ) (ts : List Term) → is_zero c ≡ false → with_term id c ts ≡ record { id = id; coefficient = c } ∷ ts
@@ -48,10 +48,6 @@ zero_factor (negsuc a) (pos zero) h g = absurd_zero g
 zero_factor (negsuc a) (pos (suc c)) h g = ap is_zero (negsuc-*ℤ-pos a (suc c)) ∙ some_neg (suc a * suc c) (mul-pos (omega arith) (omega arith))
 zero_factor (negsuc a) (negsuc c) h g = ap is_zero (negsuc-*ℤ-negsuc a c) ∙ some_pos (suc a * suc c) (mul-pos (omega arith) (omega arith))
 
-signed_used : (b : Bool) (c : ℤ) → is_zero c ≡ false → is_zero (signed b c) ≡ false
-signed_used true c h = grind (arith, ints)
-signed_used false c h = h
-
 -- the terms of a multiple
 pub scaled_terms : (b : Bool) (k : ℤ) (es : List (ℕ × ℤ)) → is_zero k ≡ false → All IsUsed (values_of es) → times_terms k (terms_in b es) ≡ terms_in b (scaled k es)
 scaled_terms b k [] h g = refl
@@ -60,11 +56,8 @@ scaled_terms b k (e ∷ es) h g =
     ∙ with_used e.0 (k *ℤ signed b e.1) (terms_in b (scaled k es)) (zero_factor k (signed b e.1) h (signed_used b e.1 (All-head IsUsed e.1 (values_of es) g).used))
     ∙ ap (λ c. record { id = e.0; coefficient = c } ∷ terms_in b (scaled k es)) (signed_factor b k e.1)
 
-twice : (y : ℤ) → y ≡ negsuc 0 *ℤ (negsuc 0 *ℤ y)
-twice y = omega (arith, ints)
-
 turned_once : (b : Bool) (c : ℤ) → signed (not b) c ≡ negsuc 0 *ℤ signed b c
-turned_once true c = twice c
+turned_once true c = sym (twice c)
 turned_once false c = refl
 
 -- the terms of the opposite
@@ -108,9 +101,6 @@ once_terms b (e ∷ es) h =
     ap (λ c. with_term e.0 c (times_terms (pos 1) (terms_in b es))) (one_times (signed b e.1))
     ∙ with_used e.0 (signed b e.1) (times_terms (pos 1) (terms_in b es)) (signed_used b e.1 (All-head IsUsed e.1 (values_of es) h).used)
     ∙ ap (λ ts. record { id = e.0; coefficient = signed b e.1 } ∷ ts) (once_terms b es (All-tail IsUsed e.1 (values_of es) h))
-
-few_is : (n : ℕ) → n ≤ TERMS → nat_le n TERMS ≡ true
-few_is n h = grind arith
 
 tally_kept : (k : ℤ) (b : Bool) (m : BTreeMap ℕ ℤ) → IsTally k m → if_bounded (form_in k b m) ≡ Some (form_in k b m)
 tally_kept k b m h = tally_bounded k b m h.constant (few_is (btree_map_len m) h.few) h.used
@@ -164,16 +154,6 @@ multiple_is k c p b m r f h t v e g i n o =
     sym (ap (λ x. if_bounded (times_form k x)) (sym v) ∙ ap if_bounded (sym (multiple_form k c p b m r h t.used e n)) ∙ tally_kept p b r (multiple_kept k c p m r h t g i n o))
 
 -- there is none where the constant is out of bounds
-none_first : (f : Affine) (a b : Bool) → a ≡ false → (if (a && b) then Some f else None) ≡ None
-none_first f true b h = cc
-none_first f false b h = refl
-
-none_third : (f : Affine) (a b c : Bool) → c ≡ false → (if (a && (b && c)) then Some f else None) ≡ None
-none_third f true true true h = cc
-none_third f true true false h = refl
-none_third f true false c h = refl
-none_third f false b c h = refl
-
 pub no_multiple : (k c p : ℤ) (b : Bool) (m : BTreeMap ℕ ℤ) (f : Affine) → form_in c b m ≡ f → p ≡ k *ℤ c → is_constant p ≡ false → None ≡ if_bounded (times_form k f)
 no_multiple k c p b m f v e h =
     sym (ap (λ x. if_bounded (times_form k x)) (sym v) ∙ none_first (times_form k (form_in c b m)) (is_constant (k *ℤ c)) _ (ap is_constant (sym e) ∙ h))
@@ -187,7 +167,7 @@ all_scaled b k (e ∷ es) =
 pub no_product : (k c : ℤ) (b : Bool) (m : BTreeMap ℕ ℤ) (f : Affine) → is_zero k ≡ false → AreUsed m → form_in c b m ≡ f → list_all (λ c. is_coefficient (k *ℤ c)) (values m) ≡ false → None ≡ if_bounded (times_form k f)
 no_product k c b m f h u v g =
     sym (ap (λ x. if_bounded (times_form k x)) (sym v)
-      ∙ none_third (times_form k (form_in c b m)) _ _ _ (ap (list_all (λ (t : Term). is_coefficient t.coefficient)) (scaled_terms b k m.entries h u.all) ∙ all_scaled b k m.entries ∙ g))
+    ∙ none_third (times_form k (form_in c b m)) _ _ _ (λ all. sym (ap (list_all (λ (t : Term). is_coefficient t.coefficient)) (scaled_terms b k m.entries h u.all) ∙ all_scaled b k m.entries ∙ g) ∙ all))
 
 -- products within bounds don't wrap
 pub product_stays : (k v : ℤ) → is_coefficient (k *ℤ v) ≡ true → to_z w64 (of_z w64 (k *ℤ v)) ≡ k *ℤ v

@@ -1,4 +1,4 @@
-use Rattle.std.proofs.Common.{◌≡◌, ◌∙◌, ap, w64}
+use Rattle.std.proofs.Common.{◌∙◌, ap, w64}
 use Rattle.std.proofs.lemmas.Int.{to_z-of_z}
 use Rattle.nona_affine.specs.Tallies.{signed, terms_in}
 use Rattle.nona_affine.proofs.Pouring.{coefficient_fits, list_step, used_first, used_rest}

@@ -1,4 +1,4 @@
-use Rattle.std.proofs.Common.{◌≡◌, ◌*ℤ◌, ◌+ℤ◌, ◌∙◌, ap, subst, sym, true, false, w64}
+use Rattle.std.proofs.Common.{◌*ℤ◌, ◌+ℤ◌, ◌∙◌, ap, subst, sym, w64}
 use Rattle.std.proofs.lemmas.Int.{to_z-of_z}
 use Rattle.nona_forms.specs.Affine.{is_coefficient}
 use Rattle.nona_affine.specs.Tallies.{IsAdded, value_at, sum_at, signed}
@@ -11,7 +11,7 @@ returns-then-not-branch c =
     let same = to_z-of_z w64 c.signed.result (record { sfits = c.signed.type_inv }) ∙ c.signed.ensures ∙ ap (signed c.args.turned) (to_z-of_z w64 c.in-Some.coefficient (coefficient_fits c.in-Some.coefficient used.within)) in
     let far = subst (IsAdded c.in-Some.id _ c.loop-id.into c.add.new.sums) c.if-not-branch.true c.in_ok-add.ensures in
     pour_stops c.args.turned c.args.into.now c.args.from.now c.loop-id.into c.loop-id.from c.pop_first.new.self.entries c.in-Some.id c.in-Some.coefficient c.loop-id.invariant.into c.loop-id.invariant.from c.in-Some.ensures.removal c.loop-id.invariant.total
-      (ap (λ x. is_coefficient (value_at c.in-Some.id c.loop-id.into.entries +ℤ x)) (sym same) ∙ far)
+    (ap (λ x. is_coefficient (value_at c.in-Some.id c.loop-id.into.entries +ℤ x)) (sym same) ∙ far)
 
 pub loop-id-preserved : goal.loop-id-preserved
 loop-id-preserved c =

@@ -1,4 +1,4 @@
-use Rattle.std.proofs.Common.{◌≡◌, ◌∙◌, ap}
+use Rattle.std.proofs.Common.{◌∙◌, ap}
 use Rattle.nona_forms.specs.Affine.{no_terms}
 use Rattle.nona_affine.proofs.Scaling.{empty_is}
 use Rattle.nona_affine.proofs.tallies.Tally.is_constant_alone.Goals as goal

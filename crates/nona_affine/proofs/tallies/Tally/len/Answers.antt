@@ -1,4 +1,4 @@
-use Rattle.std.proofs.Common.{◌≡◌, ◌∙◌, sym, ap, length}
+use Rattle.std.proofs.Common.{◌∙◌, sym, ap, length}
 use Rattle.nona_affine.proofs.Alike.{length_in}
 use Rattle.nona_affine.proofs.tallies.Tally.len.Goals as goal
 
