@@ -1,10 +1,13 @@
 pub mod Bools
 pub mod Members
-pub mod TermLoops
-pub mod FormLoops
 pub mod FormEquations
 pub mod SmallRanges
 pub mod PairLoops
 pub mod BoxLoops
 pub mod AssignedEquations
 pub mod ReferenceEquations
+pub mod Entries
+pub mod Pouring
+pub mod Alike
+pub mod Joining
+pub mod Scaling

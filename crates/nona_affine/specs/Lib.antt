@@ -2,3 +2,4 @@ pub mod Small
 pub mod Lists
 pub mod Steps
 pub mod Spotted
+pub mod Tallies

@@ -1,6 +1,7 @@
 //! Divisors, coefficients and distances.
 
-ghost use Rattle.std.specs.Prelude.{◌≡◌, ◌≤◌, ◌<◌, ◌+◌, ◌^◌, ◌==◌, ℕ, ◌+ℤ◌, nat_lt, if◌then◌else◌, length, unsigned_abs, All, IsTrue};
+ghost use Rattle.std.specs.Prelude.{◌≡◌, ◌≤◌, ◌<◌, ◌+◌, ◌^◌, ◌==◌, ℕ, ◌+ℤ◌, nat_lt};
+ghost use Rattle.std.specs.Prelude.{if◌then◌else◌, length, unsigned_abs, All, IsTrue};
 ghost use Rattle.std.specs.Int.{IsGcd};
 ghost use Rattle.nona_forms.specs.Affine.{is_coefficient};
 ghost use Rattle.nona_forms.specs.Verdicts.{coefficient_of, inner_terms, gcd_of, gcd_terms, is_distance, has_multiple};

@@ -8,9 +8,15 @@ ghost use Rattle.nona_affine.specs.Steps.{term_in, added_term};
 ghost use Rattle.nona_affine.specs.Small.{IsSmallRange};
 ghost use Rattle.nona_forms.specs.declared.terms.Term.{Term};
 
-use crate::combining::factor;
 use nona_forms::{Form, InnerLoop, Term};
 use nona_num::Range;
+
+/// A form's constant as a number of 64 bits.
+fn number(form: &Form) -> i64
+    ensures { result ≡ form.now.constant }
+{
+    form.constant() as i64
+}
 
 /// Constant bounds, where both forms exist without terms.
 pub fn fixed_bounds(low: &Option<Form>, high: &Option<Form>) -> Option<(i64, i64)>
@@ -22,7 +28,7 @@ pub fn fixed_bounds(low: &Option<Form>, high: &Option<Form>) -> Option<(i64, i64
             None => None,
             Some(high) => {
                 if low.terms().is_empty() && high.terms().is_empty() {
-                    Some((factor(low), factor(high)))
+                    Some((number(low), number(high)))
                 } else {
                     None
                 }

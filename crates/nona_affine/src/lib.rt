@@ -11,7 +11,8 @@ mod of_expr;
 mod of_loop;
 mod pairs;
 mod ranges;
-mod terms;
+mod sums;
+mod tallies;
 
 pub use assigned::push_all_assigned;
 pub use boxes::add_times;

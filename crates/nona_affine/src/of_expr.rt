@@ -5,12 +5,43 @@ ghost use Rattle.nona_forms.specs.Affine.{form_of};
 
 use crate::combining::{negated, operated, scalar};
 use crate::names::{Ids, Names};
+use crate::tallies::Tally;
 use nona_forms::Form;
 use nona_tree::Expr;
 use std::alloc::{AllocError, Global};
 
-/// The form of an expression in which the indices of some inner loops and some other scalars may occur, if it has one.
+/// The form of an expression in which the indices of some inner loops and some other scalars may occur, while it is worked out.
 #[tactic(auto, using(crate::proofs::FormEquations::form_laws))]
+fn tally_inside(
+    alloc: Global,
+    e: &Expr,
+    inner: &Ids,
+    names: &Names,
+) -> Result<Option<Tally>, AllocError>
+    ensures { IfOk result (λ o. o ≡ form_of e.now (inner.now ++ names.now)) }
+{
+    match e {
+        Expr::Number(number) => Ok(Tally::of_number(alloc, *number as i128)),
+        Expr::Scalar(x) => scalar(alloc, x.id, inner, names),
+        Expr::Neg(part) => {
+            let inside = tally_inside(alloc, part.get(), inner, names)?;
+            Ok(negated(inside))
+        }
+        Expr::Binary {
+            op,
+            left,
+            right,
+            ..
+        } => {
+            let first = tally_inside(alloc, left.get(), inner, names)?;
+            let second = tally_inside(alloc, right.get(), inner, names)?;
+            operated(alloc, *op, first, second)
+        }
+        Expr::Cell(_) | Expr::Len(_) | Expr::Not(_) => Ok(None),
+    }
+}
+
+/// The form of an expression in which the indices of some inner loops and some other scalars may occur, if it has one.
 pub fn form_inside(
     alloc: Global,
     e: &Expr,
@@ -19,24 +50,13 @@ pub fn form_inside(
 ) -> Result<Option<Form>, AllocError>
     ensures { IfOk result (λ o. o ≡ form_of e.now (inner.now ++ names.now)) }
 {
-    match e {
-        Expr::Number(number) => Form::within(alloc, *number as i128, Vec::new(alloc)),
-        Expr::Scalar(x) => scalar(alloc, x.id, inner, names),
-        Expr::Neg(part) => {
-            let inside = form_inside(alloc, part.get(), inner, names)?;
-            negated(alloc, inside)
+    let tally = tally_inside(alloc, e, inner, names)?;
+    match tally {
+        None => Ok(None),
+        Some(tally) => {
+            let form = tally.into_form(alloc)?;
+            Ok(Some(form))
         }
-        Expr::Binary {
-            op,
-            left,
-            right,
-            ..
-        } => {
-            let first = form_inside(alloc, left.get(), inner, names)?;
-            let second = form_inside(alloc, right.get(), inner, names)?;
-            operated(alloc, *op, first, second)
-        }
-        Expr::Cell(_) | Expr::Len(_) | Expr::Not(_) => Ok(None),
     }
 }
 

@@ -1,11 +1,14 @@
 //! The dependence test.
 
-ghost use Rattle.std.specs.Prelude.{◌≡◌, ◌≤◌, ◌<◌, pos, length, drop, nat_lt, slice_index_or, ◌^◌, ◌&&◌, not, ◌-ℤ◌, neg_ℤ, negsuc, unsigned_abs, true, IsTrue, Some, IfSome};
+ghost use Rattle.std.specs.Prelude.{◌≡◌, ◌≤◌, ◌<◌, pos, length, drop, nat_lt, slice_index_or, ◌^◌, ◌&&◌, not};
+ghost use Rattle.std.specs.Prelude.{◌-ℤ◌, neg_ℤ, negsuc, unsigned_abs, true, IsTrue, Some, IfSome};
 ghost use Rattle.std.specs.List.{list_any};
 ghost use Rattle.std.specs.Ordering.{int_eq};
 ghost use Rattle.nona_tree.specs.Value.{is_zero};
 ghost use Rattle.nona_forms.specs.Boxes.{sum_range, times_range};
-ghost use Rattle.nona_forms.specs.Verdicts.{is_empty, fixed_inner, divides, has_multiple, has_distance, is_outside, coefficient_of, range_in, some_empty, is_undivided, near_of, far_of, rest_range, whole_range, has_reason, inner_part, is_too_near, is_too_far, invariant_terms, same_terms, are_apart, if_form, is_apart, verdict_of};
+ghost use Rattle.nona_forms.specs.Verdicts.{is_empty, fixed_inner, divides, has_multiple, has_distance, is_outside, coefficient_of, range_in};
+ghost use Rattle.nona_forms.specs.Verdicts.{some_empty, is_undivided, near_of, far_of, rest_range, whole_range, has_reason, inner_part};
+ghost use Rattle.nona_forms.specs.Verdicts.{is_too_near, is_too_far, invariant_terms, same_terms, are_apart, if_form, is_apart, verdict_of};
 ghost use Rattle.nona_affine.specs.Small.{IsSmallRange};
 
 use crate::arithmetic::{can_reach, coefficient, gcd, gcd_behind};

@@ -50,11 +50,12 @@ merge_rises n t behind h z k [] g = (h, z, k [] tt)
 merge_rises n t behind h z k (u ∷ us) g =
     merged n t u us (behind (u ∷ us)) (behind us) (merge_term t behind us) (nat_lt t.id u.id) (nat_lt u.id t.id) refl refl h z g (λ l. k (u ∷ us) (l, g.1, g.2)) (λ l. merge_rises (suc u.id) t behind l z k us g.2) (λ e. k us (subst (λ i. RisesFrom (suc i) us) (sym e) g.2))
 
-sum_rises : (n : ℕ) (ts us : List Term) → RisesFrom n ts → RisesFrom n us → RisesFrom n (sum_terms ts us)
+-- a sum of terms in order is in order, and so is a multiple
+pub sum_rises : (n : ℕ) (ts us : List Term) → RisesFrom n ts → RisesFrom n us → RisesFrom n (sum_terms ts us)
 sum_rises n [] us h g = g
 sum_rises n (t ∷ ts) us h g = merge_rises n t (sum_terms ts) h.0 h.1 (λ vs k. sum_rises (suc t.id) ts vs h.2 k) us g
 
-times_rises : (n : ℕ) (k : ℤ) (ts : List Term) → RisesFrom n ts → RisesFrom n (times_terms k ts)
+pub times_rises : (n : ℕ) (k : ℤ) (ts : List Term) → RisesFrom n ts → RisesFrom n (times_terms k ts)
 times_rises n k [] h = tt
 times_rises n k (t ∷ ts) h = with_rises n t.id (k *ℤ t.coefficient) (times_terms k ts) h.0 (times_rises (suc t.id) k ts h.2)
 

@@ -42,7 +42,7 @@ pub fn is_coefficient(number: i128) -> bool
 }
 
 /// Whether a number may be the constant of a form.
-fn is_constant(number: i128) -> bool
+pub fn is_constant(number: i128) -> bool
     ensures { result ≡ is_constant number }
 {
     -(CONSTANT as i128) <= number && number <= CONSTANT as i128

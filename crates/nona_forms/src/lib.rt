@@ -11,7 +11,7 @@ mod limits;
 mod shapes;
 mod terms;
 
-pub use forms::{Form, is_coefficient};
+pub use forms::{Form, is_coefficient, is_constant};
 pub use laws::{
     apart_is_separate, deeds_touch, form_is_kept, form_is_value, guard_is_enough, guard_is_within,
     pair_laws, verdict_is_first_answer,

@@ -1,7 +1,7 @@
 use Rattle.std.proofs.Common.{ap, ◌∙◌, ◌++◌}
 use Rattle.nona_forms.specs.Affine.{form_of}
 use Rattle.nona_affine.proofs.FormEquations.{form-Binary}
-use Rattle.nona_affine.proofs.of_expr.+form_inside.Goals as goal
+use Rattle.nona_affine.proofs.of_expr.+tally_inside.Goals as goal
 
 pub returns-in_ok-second-in-Binary : goal.returns-in_ok-second-in-Binary
 returns-in_ok-second-in-Binary t c =
