@@ -2,4 +2,3 @@ pub mod Arrays
 pub mod Input
 pub mod Banks
 pub mod Overlays
-pub mod Shares
