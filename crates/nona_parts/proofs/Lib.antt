@@ -1,0 +1,6 @@
+pub mod Alike
+pub mod Told
+pub mod Untied
+pub mod Begun
+pub mod Tasks
+pub mod Together

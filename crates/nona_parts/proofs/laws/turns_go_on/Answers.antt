@@ -1,0 +1,8 @@
+use Rattle.nona_parts.proofs.Together.{goes_on, deeds_go_on}
+use Rattle.nona_parts.proofs.laws.turns_go_on.Goals as goal
+
+pub returns-clause-turns : goal.returns-clause-turns
+returns-clause-turns c = goes_on
+
+pub returns-clause-deeds : goal.returns-clause-deeds
+returns-clause-deeds c = deeds_go_on

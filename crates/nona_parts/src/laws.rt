@@ -1,0 +1,48 @@
+//! Laws of iterations that are shared out. Each function does nothing when it is called: its contract is the law.
+
+ghost use Rattle.std.specs.Prelude.{◌≡◌, ℕ, ◌+◌, ◌<◌, List, [], ◌∷◌, ◌++◌, length, true, false, None, Some};
+ghost use Rattle.nona_num.specs.declared.folds.Fold.{Fold};
+ghost use Rattle.nona_tree.specs.declared.outcomes.Outcome.TheVariants.{Done};
+ghost use Rattle.nona_tree.specs.Beside.{on_done};
+ghost use Rattle.nona_tree.specs.Entries.{Entry};
+ghost use Rattle.nona_tree.specs.Memory.{Memory, scalar_at, cell_at, cells_of};
+ghost use Rattle.nona_tree.specs.Run.{done, then_do};
+ghost use Rattle.nona_plans.specs.Mentions.{reduction_of};
+ghost use Rattle.nona_parts.specs.Sharing.{Sharing, MayBeShared, store_before, store_behind, iteration, iteration_deeds, turns_over, turns_deeds};
+ghost use Rattle.nona_parts.specs.Sharing.{task_run, writes_cell, partial_of, joined_with};
+
+/// Says how a task goes on: one more iteration behind others is run where they are done, and does its deeds behind theirs.
+pub fn turns_go_on()
+    ensures turns { (e : Entry) (first : ℕ) (ks : List ℕ) (k : ℕ) (m : Memory)
+        → turns_over e first (ks ++ k ∷ []) m ≡ then_do (turns_over e first ks m) (iteration e first k) }
+    ensures deeds { (e : Entry) (first : ℕ) (ks : List ℕ) (k : ℕ) (m : Memory)
+        → turns_deeds e first (ks ++ k ∷ []) m ≡ turns_deeds e first ks m ++ on_done (turns_over e first ks m) (iteration_deeds e first k) }
+{}
+
+/// Says that iterations that may be shared out give together what one thread gives. Each task runs the whole body for its own
+/// iterations in rising order, in a store of its own, which begins as the one before all these iterations with each reduction at
+/// its fold's unit. Then
+/// - each iteration of a task is done, and one thread's are;
+/// - a cell that a task writes has in the task's store at its end the value that one thread leaves there, and no two tasks write
+///   one cell;
+/// - a cell that no task writes has behind the iterations the value that it has before them;
+/// - so has each scalar that is no reduction;
+/// - a reduction has behind the iterations its value before them joined with what the tasks have made of it, in order of tasks;
+/// - nothing is printed, and no scalar, array or cell comes or goes.
+pub fn iterations_may_be_shared()
+    ensures done { (s : Sharing) → MayBeShared s → (task : ℕ) → (task_run s task).end ≡ Done }
+    ensures written { (s : Sharing) → MayBeShared s → (task array place : ℕ) → writes_cell s task array place ≡ true
+        → cell_at (task_run s task).store array place ≡ cell_at (store_behind s) array place }
+    ensures once { (s : Sharing) → MayBeShared s → (task other array place : ℕ) → writes_cell s task array place ≡ true
+        → writes_cell s other array place ≡ true → task ≡ other }
+    ensures left { (s : Sharing) → MayBeShared s → (array place : ℕ) → ((task : ℕ) → task < s.tasks → writes_cell s task array place ≡ false)
+        → cell_at (store_behind s) array place ≡ cell_at (store_before s) array place }
+    ensures scalars { (s : Sharing) → MayBeShared s → (id : ℕ) → id < length (store_before s).scalars → reduction_of s.entry.looped id ≡ None
+        → scalar_at (store_behind s) id ≡ scalar_at (store_before s) id }
+    ensures reductions { (s : Sharing) → MayBeShared s → (id : ℕ) (f : Fold) → reduction_of s.entry.looped id ≡ Some f
+        → scalar_at (store_behind s) id ≡ joined_with f (scalar_at (store_before s) id) (partial_of s id) s.tasks }
+    ensures printed { (s : Sharing) → MayBeShared s → (store_behind s).printed ≡ (store_before s).printed }
+    ensures depth { (s : Sharing) → MayBeShared s → length (store_behind s).scalars ≡ length (store_before s).scalars }
+    ensures sizes { (s : Sharing) → MayBeShared s → (array : ℕ)
+        → length (cells_of (store_behind s) array) ≡ length (cells_of (store_before s) array) }
+{}
