@@ -1,7 +1,7 @@
 -- Two runs from stores that are bound to each other, scalar by scalar and cell by cell: where all deeds of the first are granted, both end
 -- alike, do the same deeds, and leave stores that are bound.
-use Rattle.std.proofs.Common.{◌≡◌, ◌≢◌, ◌<◌, ◌≤◌, ◌+◌, ℕ, zero, suc, ℤ, pos, negsuc, ◌+ℤ◌, Bool, true, false, List, [], ◌∷◌, ◌++◌, length, map, refl, sym, ap, subst, ◌∙◌, arith, if◌then◌else◌, length-append, length-take, ⊎_elim}
-use Rattle.std.specs.Prelude.{min, nat_le, Result, Ok, Err, All, IfOk, slice_index_or, slice_set}
+use Rattle.std.proofs.Common.{◌≡◌, ◌≢◌, ◌<◌, ◌≤◌, ℕ, zero, suc, ℤ, pos, negsuc, ◌+ℤ◌, Bool, true, false, List, [], ◌∷◌, ◌++◌, length, refl, sym, ap, subst, ◌∙◌, arith, if◌then◌else◌, length-append, length-take, ⊎_elim}
+use Rattle.std.specs.Prelude.{min, nat_le, Result, Ok, Err, slice_index_or, slice_set}
 use Rattle.std.specs.List.{AllByRecursion}
 use Rattle.std.specs.Int.{int_gap}
 use Rattle.std.proofs.lemmas.Bool.{cases_eq, cases_lt}
@@ -12,12 +12,11 @@ use Rattle.std.proofs.Math.Seq.{map-set_same}
 use Rattle.std.proofs.Math.ListN.{get_or-map}
 use Rattle.nona_num.specs.declared.folds.Fold.{Fold}
 use Rattle.nona_num.specs.Folds.{join_of}
-use Rattle.nona_tree.specs.declared.names.Use.{Use}
 use Rattle.nona_tree.specs.declared.outcomes.Trap.{Trap}
 use Rattle.nona_tree.specs.declared.outcomes.Outcome.{Outcome}
 use Rattle.nona_tree.specs.declared.outcomes.Outcome.TheVariants as outcome
 use Rattle.nona_tree.specs.declared.trees.Access.{Access}
-use Rattle.nona_tree.specs.declared.trees.Expr.{Expr, Number, Scalar}
+use Rattle.nona_tree.specs.declared.trees.Expr.{Expr, Number}
 use Rattle.nona_tree.specs.declared.trees.Stmt.{Stmt, Let, Set, Fold as FoldInto, Put, FoldPut, If', While', For', Print, Row_of-Stmt, end_of-Stmt, more_of-Stmt}
 use Rattle.nona_tree.specs.Beside.{on_ok, on_end, on_done, while_gives, first_give}
 use Rattle.nona_tree.specs.Deeds.{Deed, reads, sets, folds, loads, stores, joins, prints, value_deeds, value_then, cell_then, deeds, deeds_row, deeds_all, SeesSame, SameSizes}

@@ -1,8 +1,8 @@
 -- The store with which each task begins, and what the tasks' reductions join to.
-use Rattle.std.proofs.Common.{◌≡◌, ◌≢◌, ◌⊎◌, ⊎_elim, ℕ, zero, suc, ◌<◌, ◌≤◌, Bool, true, false, ℤ, pos, List, [], ◌∷◌, ◌++◌, length, refl, sym, ap, ◌∙◌, subst, arith}
+use Rattle.std.proofs.Common.{◌≡◌, ◌≢◌, ⊎_elim, ℕ, zero, suc, ◌<◌, ◌≤◌, ℤ, pos, List, [], ◌∷◌, ◌++◌, length, refl, sym, ap, ◌∙◌, subst, arith}
 use Rattle.std.specs.Prelude.{Some, None}
 use Rattle.std.specs.declared.option.Option.{Option}
-use Rattle.std.proofs.lemmas.Bool.{cases_eq, cases_lt}
+use Rattle.std.proofs.lemmas.Bool.{cases_eq}
 use Rattle.std.proofs.lemmas.List.{length-set, get_or-set_same, get_or-set_other}
 use Rattle.std.proofs.lemmas.List.Elements.{All-set}
 use Rattle.nona_num.specs.declared.folds.Fold.{Fold}
@@ -33,6 +33,10 @@ units_append (r ∷ xs) ys m = units_append xs ys (assign r.0 (unit_of r.1) m)
 pub units_arrays : (xs : List (ℕ × Fold)) (m : Memory) → (with_units xs m).arrays ≡ m.arrays
 units_arrays [] m = refl
 units_arrays (r ∷ xs) m = units_arrays xs (assign r.0 (unit_of r.1) m)
+
+pub units_printed : (xs : List (ℕ × Fold)) (m : Memory) → (with_units xs m).printed ≡ m.printed
+units_printed [] m = refl
+units_printed (r ∷ xs) m = units_printed xs (assign r.0 (unit_of r.1) m)
 
 pub units_depth : (xs : List (ℕ × Fold)) (m : Memory) → length (with_units xs m).scalars ≡ length m.scalars
 units_depth [] m = refl

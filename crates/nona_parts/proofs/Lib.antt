@@ -4,3 +4,4 @@ pub mod Untied
 pub mod Begun
 pub mod Tasks
 pub mod Together
+pub mod Settled

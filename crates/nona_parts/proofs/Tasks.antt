@@ -1,7 +1,6 @@
 -- What one task has after its iterations among the first k, beside what one thread has after all of these.
-use Rattle.std.proofs.Common.{◌≡◌, ◌≢◌, ◌⊎◌, inl, inr, ⊎_elim, ℕ, zero, suc, ◌+◌, ◌<◌, ◌≤◌, ◌==◌, Bool, true, false, not, ◌&&◌, ◌||◌, ℤ, pos, negsuc, ◌+ℤ◌, ◌≤ℤ◌, ◌<ℤ◌, List, [], ◌∷◌, ◌++◌, length, map, refl, sym, ap, ◌∙◌, subst, arith, if◌then◌else◌, length-append, length-take}
-use Rattle.std.specs.Prelude.{Some, None, All, slice_index_or, Ok, Result}
-use Rattle.std.specs.Int.{int_gap}
+use Rattle.std.proofs.Common.{◌≡◌, ◌≢◌, ⊎_elim, ℕ, zero, suc, ◌+◌, ◌<◌, ◌≤◌, ◌==◌, Bool, true, false, not, ◌&&◌, ℤ, pos, ◌+ℤ◌, ◌≤ℤ◌, ◌<ℤ◌, List, [], ◌∷◌, ◌++◌, length, map, refl, sym, ap, ◌∙◌, subst, arith, if◌then◌else◌}
+use Rattle.std.specs.Prelude.{Some, None, slice_index_or}
 use Rattle.std.specs.List.{AllByRecursion, Contains, list_any}
 use Rattle.std.specs.declared.option.Option.{Option}
 use Rattle.std.proofs.lemmas.Bool.{cases_eq, cases_lt}
@@ -13,40 +12,34 @@ use Rattle.nona_num.specs.Folds.{unit_of, join_of}
 use Rattle.nona_num.proofs.FoldLaws.{join_assoc, join_comm, join_unit, join_fits}
 use Rattle.nona_tree.specs.declared.outcomes.Outcome.{Outcome}
 use Rattle.nona_tree.specs.declared.outcomes.Outcome.TheVariants as outcome
-use Rattle.nona_tree.specs.declared.trees.Expr.{Scalar}
 use Rattle.nona_tree.specs.declared.trees.Loop.{Loop}
-use Rattle.nona_tree.specs.declared.trees.Stmt.{Stmt, For}
 use Rattle.nona_tree.specs.Beside.{on_done}
-use Rattle.nona_tree.specs.Deeds.{Deed, reads, sets, folds, loads, stores, joins, prints, deeds_all, SparesCell, SparesPrinted, SameSizes}
+use Rattle.nona_tree.specs.Deeds.{Deed, reads, sets, folds, loads, stores, joins, prints, deeds_all, SparesCell, SameSizes}
 use Rattle.nona_tree.specs.Entries.{Entry, after}
-use Rattle.nona_tree.specs.Memory.{Memory, scalar_at, cells_of, cell_at, declare, cut_to}
+use Rattle.nona_tree.specs.Memory.{Memory, scalar_at, cells_of, cell_at, declare}
 use Rattle.nona_tree.specs.Numbers.{IsI64, AreI64, AreI64Stmts}
-use Rattle.nona_tree.specs.Run.{Ran, done, then_do, turn, first_turns, run_all}
-use Rattle.nona_tree.specs.Scope.{IsSteady}
+use Rattle.nona_tree.specs.Run.{Ran, done, then_do, turn, run_all}
 use Rattle.nona_tree.specs.Value.{value_of}
-use Rattle.nona_tree.proofs.DeedLaws.{each_of_both, cell_stays_in_all, printed_stays_in_all}
+use Rattle.nona_tree.proofs.DeedLaws.{cell_stays_in_all}
 use Rattle.nona_tree.proofs.Depth.{all_grow}
 use Rattle.nona_tree.proofs.I64.{all_fit, statements_numbers, value_fits}
 use Rattle.nona_forms.proofs.Exact.{fits_found}
 use Rattle.nona_tree.proofs.Turns.{next_turn}
 use Rattle.nona_forms.specs.Affine.{among}
-use Rattle.nona_forms.specs.References.{Reference, HasValue, IsStoreWith, as_in, missing_below, invariants_of, references_all, assigned_all, Touches}
-use Rattle.nona_forms.specs.Separate.{IsLoopEntry, AreSeparate, Lies}
+use Rattle.nona_forms.specs.References.{Reference, HasValue, as_in, missing_below, references_all, assigned_all}
+use Rattle.nona_forms.specs.Separate.{AreSeparate}
 use Rattle.nona_forms.specs.Touched.{MayBegin, IsTouched, IsOfAccess}
-use Rattle.nona_forms.specs.Verdicts.{spot_of, shape_of, is_apart}
-use Rattle.nona_forms.specs.References.{names_of}
 use Rattle.nona_forms.proofs.GuardDone.{guard_done}
 use Rattle.nona_forms.proofs.GuardLies.{guard_lies}
 use Rattle.nona_forms.proofs.Sound.{loop_apart}
 use Rattle.nona_forms.proofs.Touching.{deeds_touch, begins_after}
 use Rattle.nona_plans.specs.Mentions.{plainly, mentions_all, reduction_of}
 use Rattle.nona_plans.specs.Units.{are_told_apart, reductions_of, ties_of}
-use Rattle.nona_plans.proofs.Leading.{both}
-use Rattle.nona_parts.specs.Sharing.{Sharing, MayBeShared, store_before, store_behind, index_of, iteration, iteration_deeds, store_begun}
-use Rattle.nona_parts.proofs.Alike.{Link, Bond, Bound, IsRead, IsSet, IsFolded, HasInner, Granted, AreGranted, Alike, IsAlikeRow, alike_turn, all_alike}
+use Rattle.nona_parts.specs.Sharing.{Sharing, MayBeShared, store_before, index_of, iteration, iteration_deeds, store_begun}
+use Rattle.nona_parts.proofs.Alike.{Bond, Bound, HasInner, Granted, AreGranted, Alike, alike_turn, all_alike}
 use Rattle.nona_parts.proofs.Told.{IsTold, deeds_told}
 use Rattle.nona_parts.proofs.Untied.{in_among, assigned_is_reduction, reduction_by, reduction_below, reduction_is_assigned, told_apart}
-use Rattle.nona_parts.proofs.Begun.{unit_fits, units_arrays, units_depth, units_numbers, unit_begins, other_begins}
+use Rattle.nona_parts.proofs.Begun.{unit_fits, units_arrays, units_depth, units_numbers, other_begins}
 
 -- one thread
 

@@ -1,32 +1,32 @@
 -- What the tasks give together.
-use Rattle.std.proofs.Common.{◌≡◌, ◌≢◌, ◌⊎◌, inl, inr, ⊎_elim, ℕ, zero, suc, ◌+◌, ◌<◌, ◌≤◌, ◌==◌, Bool, true, false, ◌&&◌, ◌||◌, ℤ, pos, ◌+ℤ◌, List, [], ◌∷◌, ◌++◌, length, refl, sym, ap, ◌∙◌, subst, arith, if◌then◌else◌, append-nil, append_assoc}
-use Rattle.std.specs.Prelude.{Some, None, All, slice_index_or}
-use Rattle.std.specs.List.{AllByRecursion, Contains, list_any}
+use Rattle.std.proofs.Common.{◌≡◌, ◌≢◌, ◌⊎◌, inl, inr, ⊎_elim, ℕ, zero, suc, ◌<◌, ◌≤◌, ◌==◌, Bool, true, false, ◌&&◌, ◌||◌, ℤ, pos, List, [], ◌∷◌, ◌++◌, length, refl, sym, ap, ◌∙◌, subst, arith, if◌then◌else◌, append-nil, append_assoc}
+use Rattle.std.specs.Prelude.{Some, None}
+use Rattle.std.specs.List.{AllByRecursion, list_any}
 use Rattle.std.proofs.lemmas.Bool.{cases_eq, cases_lt}
 use Rattle.std.proofs.lemmas.List.{get_or_past}
 use Rattle.std.proofs.lemmas.List.Folds.{list_any-append}
 use Rattle.std.proofs.lemmas.List.Elements.{All-from_recursion}
 use Rattle.nona_num.specs.declared.folds.Fold.{Fold}
-use Rattle.nona_num.specs.Folds.{unit_of, join_of}
+use Rattle.nona_num.specs.Folds.{join_of}
 use Rattle.nona_tree.specs.declared.outcomes.Outcome.{Outcome}
 use Rattle.nona_tree.specs.declared.outcomes.Outcome.TheVariants as outcome
 use Rattle.nona_tree.specs.Beside.{on_done, on_end}
 use Rattle.nona_tree.specs.Deeds.{Deed, reads, sets, folds, loads, stores, joins, prints, SparesCell, SparesPrinted}
-use Rattle.nona_tree.specs.Entries.{Entry, after}
+use Rattle.nona_tree.specs.Entries.{Entry}
 use Rattle.nona_tree.specs.Numbers.{IsI64}
 use Rattle.nona_tree.specs.Memory.{Memory, scalar_at, cells_of, cell_at, declare}
-use Rattle.nona_tree.specs.Run.{Ran, done, then_from, then_do, run_all}
+use Rattle.nona_tree.specs.Run.{Ran, done, then_from, then_do}
 use Rattle.nona_tree.proofs.DeedLaws.{printed_stays_in_all}
 use Rattle.nona_forms.specs.Affine.{among}
 use Rattle.nona_forms.specs.References.{assigned_all}
 use Rattle.nona_forms.specs.Touched.{IsTouched, IsOfAccess}
 use Rattle.nona_plans.specs.Mentions.{mentions_all, reduction_of}
 use Rattle.nona_plans.proofs.Leading.{same_units, both}
-use Rattle.nona_parts.specs.Sharing.{Sharing, MayBeShared, store_before, store_behind, index_of, iteration, iteration_deeds, turns_over, turns_deeds, owned_below, numbers_of, store_begun, task_run, is_write, writes_cell, partial_of, joined_with}
+use Rattle.nona_parts.specs.Sharing.{Sharing, MayBeShared, store_before, store_behind, index_of, iteration, iteration_deeds, turns_over, turns_deeds, owned_below, store_begun, task_run, is_write, writes_cell, partial_of, joined_with}
 use Rattle.nona_parts.proofs.Told.{IsTold, deeds_told}
-use Rattle.nona_parts.proofs.Untied.{in_among, among_in, or_none, assigned_is_reduction, reduction_below, reduction_is_assigned}
+use Rattle.nona_parts.proofs.Untied.{in_among, or_none, assigned_is_reduction, reduction_below}
 use Rattle.nona_parts.proofs.Begun.{unit_begins, joined_units, joined_same, joined_more}
-use Rattle.nona_parts.proofs.Tasks.{thread, thread_zero, thread_begins, thread_next, thread_done, before_begins, begun_value, scalar_number, no_clash, step, step_deeds, turns_to, deeds_to, TaskTouches, Stands, stands_at, own_alike, own_next, other_next, cell_kept, deeds_of_access, each_of}
+use Rattle.nona_parts.proofs.Tasks.{thread, thread_zero, thread_begins, thread_next, before_begins, begun_value, scalar_number, no_clash, step, step_deeds, turns_to, deeds_to, stands_at, own_alike, own_next, other_next, cell_kept, deeds_of_access, each_of}
 
 -- turns in parts
 
@@ -35,7 +35,7 @@ from_more m outcome.Done f g = refl
 from_more m (outcome.Trap t) f g = refl
 from_more m (outcome.OutOfTurns at) f g = refl
 
-over_append : (e : Entry) (first : ℕ) (xs ys : List ℕ) (m : Memory) → turns_over e first (xs ++ ys) m ≡ then_do (turns_over e first xs m) (turns_over e first ys)
+pub over_append : (e : Entry) (first : ℕ) (xs ys : List ℕ) (m : Memory) → turns_over e first (xs ++ ys) m ≡ then_do (turns_over e first xs m) (turns_over e first ys)
 over_append e first [] ys m = refl
 over_append e first (x ∷ xs) ys m =
     (λ i. then_do (iteration e first x m) (λ r. over_append e first xs ys r i))
@@ -84,7 +84,7 @@ step_over : (e : Entry) (first k : ℕ) (b : Bool) (m : Memory) → turns_over e
 step_over e first k true m = one_over e first k m
 step_over e first k false m = refl
 
-over_to : (s : Sharing) (t k : ℕ) → turns_over s.entry s.first (owned_below s.owner t k) (store_begun s) ≡ turns_to s t k
+pub over_to : (s : Sharing) (t k : ℕ) → turns_over s.entry s.first (owned_below s.owner t k) (store_begun s) ≡ turns_to s t k
 over_to s t zero = refl
 over_to s t (suc k) =
     over_append s.entry s.first (owned_below s.owner t k) (if s.owner k == t then k ∷ [] else []) (store_begun s)
@@ -94,7 +94,7 @@ step_given : (e : Entry) (first k : ℕ) (b : Bool) (m : Memory) → turns_deeds
 step_given e first k true m = one_deeds e first k m
 step_given e first k false m = refl
 
-given_to : (s : Sharing) (t k : ℕ) → turns_deeds s.entry s.first (owned_below s.owner t k) (store_begun s) ≡ deeds_to s t k
+pub given_to : (s : Sharing) (t k : ℕ) → turns_deeds s.entry s.first (owned_below s.owner t k) (store_begun s) ≡ deeds_to s t k
 given_to s t zero = refl
 given_to s t (suc k) =
     deeds_append s.entry s.first (owned_below s.owner t k) (if s.owner k == t then k ∷ [] else []) (store_begun s)
@@ -197,11 +197,11 @@ spared a p (stores b c) e = not_same b a c p e
 spared a p (joins f b c) e = not_same b a c p e
 spared a p prints e = tt
 
-all_spared : (a p : ℕ) (ds : List Deed) → list_any (is_write a p) ds ≡ false → AllByRecursion (SparesCell a p) ds
+pub all_spared : (a p : ℕ) (ds : List Deed) → list_any (is_write a p) ds ≡ false → AllByRecursion (SparesCell a p) ds
 all_spared a p [] e = tt
 all_spared a p (d ∷ ds) e = let two = or_none (is_write a p d) (list_any (is_write a p) ds) e in (spared a p d two.0, all_spared a p ds two.1)
 
-self_same : (t : ℕ) → (t == t) ≡ true
+pub self_same : (t : ℕ) → (t == t) ≡ true
 self_same t = grind arith
 
 left_to : (s : Sharing) → MayBeShared s → (a p k : ℕ) → k ≤ s.count → ((t : ℕ) → t < s.tasks → list_any (is_write a p) (deeds_to s t k) ≡ false) → cell_at (thread s k) a p ≡ cell_at (thread s 0) a p
@@ -224,7 +224,7 @@ left s h a p none =
 
 -- scalars that are no reductions
 
-free_if_no_reduction : (s : Sharing) → MayBeShared s → (x : ℕ) (b : Bool) → among x (assigned_all s.entry.looped.body) ≡ b → x < s.entry.looped.index.id → reduction_of s.entry.looped x ≡ None → b ≡ false
+pub free_if_no_reduction : (s : Sharing) → MayBeShared s → (x : ℕ) (b : Bool) → among x (assigned_all s.entry.looped.body) ≡ b → x < s.entry.looped.index.id → reduction_of s.entry.looped x ≡ None → b ≡ false
 free_if_no_reduction s h x false e below plain = refl
 free_if_no_reduction s h x true e below plain =
     let found = assigned_is_reduction s.entry.looped x h.untied (in_among x (assigned_all s.entry.looped.body) e) below in
@@ -288,7 +288,7 @@ reductions_join s h x f e =
 
 -- what is printed, and the shape of the store
 
-silent_deed : (s : Sharing) (d : Deed) → IsTold (mentions_all s.entry.looped.body) (assigned_all s.entry.looped.body) d → SparesPrinted d
+pub silent_deed : (s : Sharing) (d : Deed) → IsTold (mentions_all s.entry.looped.body) (assigned_all s.entry.looped.body) d → SparesPrinted d
 silent_deed s (reads x) c = tt
 silent_deed s (sets x) c = tt
 silent_deed s (folds f x) c = tt

@@ -1,6 +1,6 @@
 -- The scalars that a run's deeds name are named in its text, and a run prints only where its text does.
-use Rattle.std.proofs.Common.{◌≡◌, ℕ, zero, suc, ◌<◌, Bool, true, false, ◌||◌, ℤ, pos, ◌+ℤ◌, List, [], ◌∷◌, ◌++◌, length, refl, sym, ap, ◌∙◌, arith, if◌then◌else◌, subst}
-use Rattle.std.specs.Prelude.{All, Result, Ok, Err, min, Some}
+use Rattle.std.proofs.Common.{◌≡◌, ℕ, zero, suc, Bool, true, false, ◌||◌, ℤ, pos, ◌+ℤ◌, List, [], ◌∷◌, ◌++◌, refl, arith, if◌then◌else◌}
+use Rattle.std.specs.Prelude.{Result, Ok, Err, min, Some}
 use Rattle.std.specs.Int.{int_gap}
 use Rattle.std.specs.List.{AllByRecursion, Contains, list_any}
 use Rattle.std.proofs.lemmas.List.Elements.{Contains-append_left, Contains-append_right}
@@ -11,8 +11,8 @@ use Rattle.nona_tree.specs.declared.trees.Access.{Access}
 use Rattle.nona_tree.specs.declared.trees.Expr.{Expr, Number, Scalar, Cell', Len, Neg', Not', Binary', more_of-Expr, end_of-Expr}
 use Rattle.nona_tree.specs.declared.trees.Expr.TheBlock.{more_of-Access, end_of-Access}
 use Rattle.nona_tree.specs.declared.trees.Stmt.{Stmt, Let, Set, Fold as FoldInto, Put, FoldPut, If', While', For', Print, Row_of-Stmt, end_of-Stmt, more_of-Stmt}
-use Rattle.nona_tree.specs.Beside.{on_ok, on_end, on_done, while_gives, first_give}
-use Rattle.nona_tree.specs.Deeds.{Deed, reads, sets, folds, loads, stores, joins, prints, value_deeds, value_then, cell_then, deeds, deeds_row, deeds_all}
+use Rattle.nona_tree.specs.Beside.{on_ok, on_end, while_gives, first_give}
+use Rattle.nona_tree.specs.Deeds.{Deed, reads, sets, folds, stores, joins, prints, value_deeds, value_then, cell_then, deeds, deeds_row, deeds_all}
 use Rattle.nona_tree.specs.Memory.{Memory, declare}
 use Rattle.nona_tree.specs.Run.{Ran, block, turn, first_turns, run, run_row}
 use Rattle.nona_tree.specs.Value.{Answer, is_zero, value_of, cell_of}

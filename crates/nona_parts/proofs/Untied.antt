@@ -1,13 +1,12 @@
 -- What a loop has of which no tie is loop-carried: each scalar from outside that it assigns is a reduction, and two accesses of one array, of
 -- which one writes, are told apart.
-use Rattle.std.proofs.Common.{◌≡◌, ◌⊎◌, inl, inr, ⊎_elim, ℕ, zero, suc, ◌<◌, ◌≤◌, ◌-◌, ◌==◌, Bool, true, false, not, ◌&&◌, ◌||◌, List, [], ◌∷◌, ◌++◌, length, map, filter, refl, sym, ap, ◌∙◌, subst, arith, if◌then◌else◌}
+use Rattle.std.proofs.Common.{◌≡◌, ◌⊎◌, inl, inr, ⊎_elim, ℕ, zero, suc, ◌<◌, ◌-◌, ◌==◌, Bool, true, false, not, ◌&&◌, ◌||◌, List, [], ◌∷◌, ◌++◌, length, map, filter, refl, sym, ap, ◌∙◌, subst, arith, if◌then◌else◌}
 use Rattle.std.specs.Prelude.{nat_lt, nat_le, Some, None, is_some, slice_index_or}
 use Rattle.std.specs.List.{Contains, list_any, list_all, flat_map}
 use Rattle.std.specs.declared.option.Option.{Option}
 use Rattle.std.proofs.lemmas.List.Elements.{Contains-append_cases, Contains-append_left, Contains-append_right}
 use Rattle.nona_num.specs.declared.folds.Fold.{Fold as By}
 use Rattle.nona_num.specs.declared.folds.Fold.TheVariants as fold
-use Rattle.nona_tree.specs.declared.trees.Access.{Access}
 use Rattle.nona_tree.specs.declared.trees.Expr.{Expr, Number, Scalar, Cell', Len, Neg', Not', Binary', more_of-Expr, end_of-Expr}
 use Rattle.nona_tree.specs.declared.trees.Expr.TheBlock.{more_of-Access, end_of-Access}
 use Rattle.nona_tree.specs.declared.trees.Loop.{Loop}
@@ -17,11 +16,11 @@ use Rattle.nona_forms.specs.References.{Reference, references, references_all, a
 use Rattle.nona_plans.specs.declared.graphs.Mention.{Mention}
 use Rattle.nona_plans.specs.declared.graphs.Tie.{Tie}
 use Rattle.nona_plans.specs.Components.{up_to}
-use Rattle.nona_plans.specs.Mentions.{expr_mentions, mentions, mentions_row, mentions_all, plainly, same_fold, is_fold, is_by, fold_if, only_fold, reduction_of, prints}
-use Rattle.nona_plans.specs.Units.{named_in, arrays_in, unit_has, both_have, carried_scalars, written_arrays, has_pair, are_told_apart, may_meet, carried_arrays, share_local, unit_prints, is_carried, is_tied, tie_of, ties_of}
+use Rattle.nona_plans.specs.Mentions.{expr_mentions, mentions, mentions_row, mentions_all, plainly, same_fold, is_fold, is_by, fold_if, only_fold, reduction_of}
+use Rattle.nona_plans.specs.Units.{named_in, arrays_in, unit_has, both_have, carried_scalars, written_arrays, has_pair, are_told_apart, may_meet, carried_arrays, share_local, is_carried, tie_of, ties_of}
 use Rattle.nona_plans.specs.Walks.{IsUnit}
 use Rattle.nona_plans.proofs.Leading.{same_units, or_left, or_right, both, and_both}
-use Rattle.nona_plans.proofs.Lists.{among_filter, unit_among}
+use Rattle.nona_plans.proofs.Lists.{unit_among}
 
 -- lists
 

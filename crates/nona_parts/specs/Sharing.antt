@@ -1,19 +1,19 @@
 -- The sharing out of a loop's iterations: what each of several tasks runs, and what it writes.
-use Rattle.std.specs.Prelude.{◌≡◌, ℕ, zero, suc, ◌+◌, ◌<◌, ◌==◌, Bool, true, false, ◌&&◌, if◌then◌else◌, ℤ, pos, ◌+ℤ◌, ◌≤ℤ◌, List, [], ◌∷◌, ◌++◌, IsTrue}
+use Rattle.std.specs.Prelude.{◌≡◌, ℕ, zero, suc, ◌+◌, ◌<◌, ◌==◌, Bool, true, false, ◌&&◌, if◌then◌else◌, ℤ, pos, ◌+ℤ◌, ◌≤ℤ◌, List, [], ◌∷◌, ◌++◌, length, IsTrue, Some, None}
 use Rattle.std.specs.List.{list_any}
 use Rattle.nona_num.specs.declared.folds.Fold.{Fold}
 use Rattle.nona_num.specs.Folds.{unit_of, join_of}
 use Rattle.nona_tree.specs.declared.trees.Stmt.{For}
 use Rattle.nona_tree.specs.Beside.{on_done}
-use Rattle.nona_tree.specs.Deeds.{Deed, stores, joins, deeds_all}
+use Rattle.nona_tree.specs.Deeds.{Deed, stores, joins, deeds_all, SameSizes}
 use Rattle.nona_tree.specs.Entries.{Entry, after}
-use Rattle.nona_tree.specs.Memory.{Memory, scalar_at, declare, assign}
+use Rattle.nona_tree.specs.Memory.{Memory, scalar_at, cell_at, declare, assign}
 use Rattle.nona_tree.specs.Run.{Ran, done, then_do, turn, run_all}
 use Rattle.nona_tree.specs.Scope.{IsSteady}
 use Rattle.nona_forms.specs.Calm.{is_calm}
 use Rattle.nona_forms.specs.Guards.{guard_of}
 use Rattle.nona_forms.specs.Separate.{IsLoopEntry}
-use Rattle.nona_plans.specs.Mentions.{prints}
+use Rattle.nona_plans.specs.Mentions.{prints, reduction_of}
 use Rattle.nona_plans.specs.Units.{ties_of, reductions_of}
 
 -- iterations of an entry that are shared out: the number of the first one, counted from the entry's low bound, how many they are,
@@ -107,3 +107,18 @@ partial_of s id task = scalar_at (task_run s task).store id
 abbrev pub joined_with : Fold → ℤ → (ℕ → ℤ) → ℕ → ℤ
 joined_with f v partial zero = v
 joined_with f v partial (suc task) = join_of f (joined_with f v partial task) (partial task)
+
+-- a store that is made of what the tasks leave: each cell that a task writes is as in the task's store, and any other as before; each
+-- reduction is joined with what the tasks have made of it, and any other scalar is as before; and nothing is printed
+pub record IsSettled (s : Sharing) (m : Memory) : Type 0 where
+  pub depth : length m.scalars ≡ length (store_before s).scalars
+  pub scalars : (id : ℕ) → id < length m.scalars → reduction_of s.entry.looped id ≡ None → scalar_at m id ≡ scalar_at (store_before s) id
+  pub reductions : (id : ℕ) (f : Fold) → reduction_of s.entry.looped id ≡ Some f
+      → scalar_at m id ≡ joined_with f (scalar_at (store_before s) id) (partial_of s id) s.tasks
+  pub arrays : length m.arrays ≡ length (store_before s).arrays
+  pub sizes : SameSizes (store_before s) m
+  pub written : (task array place : ℕ) → task < s.tasks → writes_cell s task array place ≡ true
+      → cell_at m array place ≡ cell_at (task_run s task).store array place
+  pub left : (array place : ℕ) → ((task : ℕ) → task < s.tasks → writes_cell s task array place ≡ false)
+      → cell_at m array place ≡ cell_at (store_before s) array place
+  pub printed : m.printed ≡ (store_before s).printed

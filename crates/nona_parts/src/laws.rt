@@ -4,19 +4,24 @@ ghost use Rattle.std.specs.Prelude.{◌≡◌, ℕ, ◌+◌, ◌<◌, List, [], 
 ghost use Rattle.nona_num.specs.declared.folds.Fold.{Fold};
 ghost use Rattle.nona_tree.specs.declared.outcomes.Outcome.TheVariants.{Done};
 ghost use Rattle.nona_tree.specs.Beside.{on_done};
+ghost use Rattle.nona_tree.specs.Deeds.{SameSizes};
 ghost use Rattle.nona_tree.specs.Entries.{Entry};
 ghost use Rattle.nona_tree.specs.Memory.{Memory, scalar_at, cell_at, cells_of};
+ghost use Rattle.nona_tree.specs.Numbers.{AreI64};
 ghost use Rattle.nona_tree.specs.Run.{done, then_do};
 ghost use Rattle.nona_plans.specs.Mentions.{reduction_of};
 ghost use Rattle.nona_parts.specs.Sharing.{Sharing, MayBeShared, store_before, store_behind, iteration, iteration_deeds, turns_over, turns_deeds};
-ghost use Rattle.nona_parts.specs.Sharing.{task_run, writes_cell, partial_of, joined_with};
+ghost use Rattle.nona_parts.specs.Sharing.{task_run, writes_cell, partial_of, joined_with, IsSettled};
 
-/// Says how a task goes on: one more iteration behind others is run where they are done, and does its deeds behind theirs.
+/// Says how a task goes on: one more iteration behind others is run where they are done, and does its deeds behind theirs. Where
+/// some iterations are done one after another, so are the first of them.
 pub fn turns_go_on()
     ensures turns { (e : Entry) (first : ℕ) (ks : List ℕ) (k : ℕ) (m : Memory)
         → turns_over e first (ks ++ k ∷ []) m ≡ then_do (turns_over e first ks m) (iteration e first k) }
     ensures deeds { (e : Entry) (first : ℕ) (ks : List ℕ) (k : ℕ) (m : Memory)
         → turns_deeds e first (ks ++ k ∷ []) m ≡ turns_deeds e first ks m ++ on_done (turns_over e first ks m) (iteration_deeds e first k) }
+    ensures front { (e : Entry) (first : ℕ) (ks js : List ℕ) (m : Memory) → (turns_over e first (ks ++ js) m).end ≡ Done
+        → (turns_over e first ks m).end ≡ Done }
 {}
 
 /// Says that iterations that may be shared out give together what one thread gives. Each task runs the whole body for its own
@@ -45,4 +50,22 @@ pub fn iterations_may_be_shared()
     ensures depth { (s : Sharing) → MayBeShared s → length (store_behind s).scalars ≡ length (store_before s).scalars }
     ensures sizes { (s : Sharing) → MayBeShared s → (array : ℕ)
         → length (cells_of (store_behind s) array) ≡ length (cells_of (store_before s) array) }
+{}
+
+/// Says what a task's own store has at its end besides: a cell that the task doesn't write and a scalar that is no reduction are
+/// as before the iterations, its numbers have 64 bits, nothing is printed, and no scalar or cell came or went.
+pub fn tasks_keep()
+    ensures cells { (s : Sharing) → MayBeShared s → (task array place : ℕ) → writes_cell s task array place ≡ false
+        → cell_at (task_run s task).store array place ≡ cell_at (store_before s) array place }
+    ensures scalars { (s : Sharing) → MayBeShared s → (task id : ℕ) → id < length (store_before s).scalars → reduction_of s.entry.looped id ≡ None
+        → scalar_at (task_run s task).store id ≡ scalar_at (store_before s) id }
+    ensures numbers { (s : Sharing) → MayBeShared s → (task : ℕ) → AreI64 (task_run s task).store }
+    ensures printed { (s : Sharing) → MayBeShared s → (task : ℕ) → (task_run s task).store.printed ≡ (store_before s).printed }
+    ensures depth { (s : Sharing) → MayBeShared s → (task : ℕ) → length (task_run s task).store.scalars ≡ length (store_before s).scalars }
+    ensures sizes { (s : Sharing) → MayBeShared s → (task : ℕ) → SameSizes (store_before s) (task_run s task).store }
+{}
+
+/// Says that a store that is settled from what the tasks leave is the one that one thread leaves.
+pub fn settled_is_behind()
+    ensures { (s : Sharing) (m : Memory) → MayBeShared s → IsSettled s m → m ≡ store_behind s }
 {}

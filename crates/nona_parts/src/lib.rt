@@ -6,4 +6,4 @@
 
 mod laws;
 
-pub use laws::{iterations_may_be_shared, turns_go_on};
+pub use laws::{iterations_may_be_shared, settled_is_behind, tasks_keep, turns_go_on};

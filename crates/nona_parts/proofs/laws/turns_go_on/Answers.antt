@@ -1,3 +1,4 @@
+use Rattle.nona_parts.proofs.Settled.{front_done}
 use Rattle.nona_parts.proofs.Together.{goes_on, deeds_go_on}
 use Rattle.nona_parts.proofs.laws.turns_go_on.Goals as goal
 
@@ -6,3 +7,6 @@ returns-clause-turns c = goes_on
 
 pub returns-clause-deeds : goal.returns-clause-deeds
 returns-clause-deeds c = deeds_go_on
+
+pub returns-clause-front : goal.returns-clause-front
+returns-clause-front c = front_done
