@@ -5,3 +5,4 @@ pub mod Begun
 pub mod Tasks
 pub mod Together
 pub mod Settled
+pub mod Examples
