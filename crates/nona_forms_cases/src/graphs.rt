@@ -25,10 +25,12 @@ fn graph_line(alloc: Global, graph: &Graph) -> Result<String, AllocError> {
 }
 
 /// The graph of a loop, and its ties by themselves.
-fn seen_of(alloc: Global, l: &Loop) -> Result<String, AllocError> {
+fn seen_of(rt: &impl Abort, alloc: Global, l: &Loop) -> Result<String, Fail> {
+    let units = l.body.len();
+    assert!(rt; units <= 64);
     let graph = graph_line(alloc, &graph(alloc, l)?)?;
     let ties = ties_line(alloc, &ties(alloc, l)?)?;
-    format!(in alloc; "{graph}; {ties}")
+    Ok(format!(in alloc; "{graph}; {ties}")?)
 }
 
 /// Compares what is seen of the loop that comes last in a text.
@@ -36,7 +38,7 @@ fn compare(rt: &impl Abort, alloc: Global, text: &str, want: &str) -> Result<(),
     let checked = checked_of(rt, alloc, text.as_bytes())?;
     let got = match last_loop(&checked) {
         None => String::new(alloc),
-        Some(l) => seen_of(alloc, l)?,
+        Some(l) => seen_of(rt, alloc, l)?,
     };
     assert_eq!(rt; got.as_str(), want);
     Ok(())
