@@ -37,7 +37,7 @@ option_argument id = record (new_rule id) { long = Some id }
 abbrev pub flag_argument : List ℕ → Rule
 flag_argument id = record (new_rule id) { long = Some id; action = Some SetTrue }
 
--- a command with these arguments and no others, as `--help`, whose words begin behind its name
+-- a command with these arguments alone, without `--help`, whose words begin behind its name
 abbrev pub with_arguments : List ℕ → List Rule → App
 with_arguments name arguments = record {
   top = record (new_shape name) { rules = arguments; no_binary_name = true; disable_help_flag = true };
