@@ -19,8 +19,8 @@ returns-in-Ok g c =
     (faults c.args.out.now) (faults c.args.out.now) (faults c.send_report-sent.new.out)
     (bare status.Done) (told_of c.once_sent.result) [] (report_text (seen_of c.args.program.now))
     check_ran (Appends-nil (written c.args.out.now)) (omega arith)
-    (c.send_report-sent.result, rw (← c.in-Ok.ensures) sent, c.once_sent.ensures ∙ ap (once_sent c.send_report-sent.result) c.bare-in-Ok.ensures)
+    (c.send_report-sent.result, rw (← c.in-Ok.ensures, ← c.deref.ensures.value) sent, c.once_sent.ensures ∙ ap (once_sent c.send_report-sent.result) c.bare.ensures)
 
 -- memory ran out before the loops were seen
 pub returns-in-Err : goal.returns-in-Err
-returns-in-Err g c = rw c.bare.ensures (ends_unbegun _ (g.K.Sink.written c.args.out.now) (g.K.Sink.faults c.args.out.now) check_unbegun)
+returns-in-Err g c = rw c.bare-in-Err.ensures (ends_unbegun _ (g.K.Sink.written c.args.out.now) (g.K.Sink.faults c.args.out.now) check_unbegun)

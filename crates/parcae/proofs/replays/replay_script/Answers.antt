@@ -26,8 +26,8 @@ use Rattle.parcae.proofs.replays.replay_script.Goals as goal
 
 pub drive-requires-clause-serves : goal.drive-requires-clause-serves
 drive-requires-clause-serves g c =
-    subst (λ (i : ImageView). ServesAll weave_promise c.new-weave.result i) (sym c.in-Ok.ensures) (serves_all c.new-weave.result _
-    (subst (λ (script : List Order). AskForSeq script) (sym (ap (λ (w : WeaveView). w.script) c.new-weave.ensures)) c.requires.alone))
+    serves_all c.new-weave.result c.in-Ok.image
+    (subst (λ (script : List Order). AskForSeq script) (sym (ap (λ (w : WeaveView). w.script) c.new-weave.ensures)) c.requires.alone)
 
 pub drive-requires-clause-scoped : goal.drive-requires-clause-scoped
 drive-requires-clause-scoped g c =
