@@ -153,7 +153,7 @@ under_none : (k : ℕ) (cells : List ℤ) → cells_under (λ p. None) k cells �
 under_none k [] = refl
 under_none k (v ∷ cells) = ap (λ (rest : List ℤ). v ∷ rest) (under_none (suc k) cells)
 
-arrays_under_none : (k : ℕ) (arrays : List (List ℤ)) → arrays_under (λ a p. None) k arrays ≡ arrays
+pub arrays_under_none : (k : ℕ) (arrays : List (List ℤ)) → arrays_under (λ a p. None) k arrays ≡ arrays
 arrays_under_none k [] = refl
 arrays_under_none k (cells ∷ arrays) = λ i. under_none 0 cells i ∷ arrays_under_none (suc k) arrays i
 
@@ -250,3 +250,53 @@ covered m over a p within =
 -- and its array is as long as it was
 pub as_long : (m : Memory) (over : ℕ → ℕ → Option ℤ) (a : ℕ) → length (cells_of (under over m) a) ≡ length (cells_of m a)
 as_long m over a = ap length (under_arrays over 0 a m.arrays) ∙ under_length (over (0 + a)) 0 (cells_of m a)
+
+-- as many arrays stand under an overlay
+pub as_many : (over : ℕ → ℕ → Option ℤ) (k : ℕ) (arrays : List (List ℤ)) → length (arrays_under over k arrays) ≡ length arrays
+as_many over k [] = refl
+as_many over k (cells ∷ arrays) = ap (λ n. suc n) (as_many over (suc k) arrays)
+
+-- a cell that is set in what stands under an overlay is one that is put on the overlay
+over_cells : (over put_there : ℕ → Option ℤ) (k at : ℕ) (v : ℤ) (cells : List ℤ) → put_there (k + at) ≡ Some v
+    → ((p : ℕ) → p ≢ k + at → put_there p ≡ over p) → slice_set (cells_under over k cells) at v ≡ cells_under put_there k cells
+over_cells over put_there k at v [] there others = refl
+over_cells over put_there k zero v (w ∷ cells) there others =
+    let here : k + 0 ≡ k = omega arith in
+    let new : put_there k ≡ Some v = ap put_there (sym here) ∙ there in
+    λ i. ap (λ (o : Option ℤ). unwrap_or o w) (sym new) i
+    ∷ same_cells over put_there (suc k) cells (λ p above. sym (others p (λ is. absurd (omega (arith, is, above))))) i
+over_cells over put_there k (suc at) v (w ∷ cells) there others =
+    let moved : k + suc at ≡ suc k + at = omega arith in
+    λ i. unwrap_or (sym (others k (λ is. absurd (omega (arith, is)))) i) w
+    ∷ over_cells over put_there (suc k) at v cells (ap put_there (sym moved) ∙ there) (λ p differs. others p (λ is. differs (is ∙ moved))) i
+
+over_arrays : (over put_there : ℕ → ℕ → Option ℤ) (k a at : ℕ) (v : ℤ) (arrays : List (List ℤ)) → put_there (k + a) at ≡ Some v
+    → ((p : ℕ) → p ≢ at → put_there (k + a) p ≡ over (k + a) p) → ((b p : ℕ) → b ≢ k + a → put_there b p ≡ over b p)
+    → slice_set (arrays_under over k arrays) a (slice_set (slice_index_or (arrays_under over k arrays) a []) at v) ≡ arrays_under put_there k arrays
+over_arrays over put_there k a at v [] there near far = refl
+over_arrays over put_there k zero at v (cells ∷ arrays) there near far =
+    let here : k + 0 ≡ k = omega arith in
+    let first : 0 + at ≡ at = omega arith in
+    λ i. over_cells (over k) (put_there k) 0 at v cells (ap (put_there k) first ∙ ap (λ n. put_there n at) (sym here) ∙ there)
+    (λ p differs. ap (λ n. put_there n p) (sym here) ∙ near p (λ is. differs (is ∙ sym first)) ∙ ap (λ n. over n p) here) i
+    ∷ same_arrays over put_there (suc k) arrays (λ b p above. sym (far b p (λ is. absurd (omega (arith, is, above))))) i
+over_arrays over put_there k (suc a) at v (cells ∷ arrays) there near far =
+    let moved : k + suc a ≡ suc k + a = omega arith in
+    λ i. same_cells (over k) (put_there k) 0 cells (λ p above. sym (far k p (λ is. absurd (omega (arith, is))))) i
+    ∷ over_arrays over put_there (suc k) a at v arrays (ap (λ n. put_there n at) (sym moved) ∙ there)
+    (λ p differs. ap (λ n. put_there n p) (sym moved) ∙ near p differs ∙ ap (λ n. over n p) moved)
+    (λ b p differs. far b p (λ is. differs (is ∙ moved))) i
+
+pub put_over_store : (over : ℕ → ℕ → Option ℤ) (a at : ℕ) (v : ℤ) (m : Memory) → put_cell a at v (under over m) ≡ under (with_cell a at v over) m
+put_over_store over a at v m = λ i. record m { arrays = same i } where
+  there : with_cell a at v over (0 + a) at ≡ Some v
+  there = ap (λ n. with_cell a at v over n at) (omega arith) ∙ pick_true (a == a && at == at) (Some v) (over a at) (grind arith)
+
+  near : (p : ℕ) → p ≢ at → with_cell a at v over (0 + a) p ≡ over (0 + a) p
+  near p differs = pick_false (a == (0 + a) && at == p) (Some v) (over (0 + a) p) (grind (arith, differs))
+
+  far : (b p : ℕ) → b ≢ 0 + a → with_cell a at v over b p ≡ over b p
+  far b p differs = pick_false (a == b && at == p) (Some v) (over b p) (grind (arith, differs))
+
+  same : slice_set (arrays_under over 0 m.arrays) a (slice_set (cells_of (under over m) a) at v) ≡ arrays_under (with_cell a at v over) 0 m.arrays
+  same = over_arrays over (with_cell a at v over) 0 a at v m.arrays there near far

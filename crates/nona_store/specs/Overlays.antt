@@ -1,5 +1,5 @@
 -- What is written over the cells of a store, and kept beside it.
-use Rattle.std.specs.Prelude.{◌≡◌, ℕ, suc, ◌<◌, ◌==◌, ◌&&◌, if◌then◌else◌, ℤ, List, [], ◌∷◌, length, All, None, Some}
+use Rattle.std.specs.Prelude.{◌≡◌, ℕ, suc, ◌<◌, ◌==◌, ◌&&◌, if◌then◌else◌, ℤ, List, [], ◌∷◌, length, All, Some}
 use Rattle.std.specs.BTreeMap.{BTreeMap, is_at, values}
 use Rattle.std.specs.Map.{lookup}
 use Rattle.std.specs.declared.cmp.Ordering.{Ordering}
@@ -21,10 +21,6 @@ over_of written array index = lookup (is_at (place_cmp (record { array = array; 
 -- each written value has 64 bits
 abbrev pub IsOverlay : BTreeMap Place ℤ → Type 0
 IsOverlay cells = All IsI64 (values cells)
-
--- no cell is written
-abbrev pub nothing_over : ℕ → ℕ → Option ℤ
-nothing_over array place = None
 
 -- one cell has this value, and the others what they have
 abbrev pub with_cell : ℕ → ℕ → ℤ → (ℕ → ℕ → Option ℤ) → ℕ → ℕ → Option ℤ

@@ -1,5 +1,5 @@
-ghost use Rattle.std.specs.Prelude.{◌≡◌, OnOk, OnErr};
-ghost use Rattle.nona_store.specs.Overlays.{HasCells, nothing_over, over_of, under, with_cell};
+ghost use Rattle.std.specs.Prelude.{◌≡◌, [], OnOk, OnErr};
+ghost use Rattle.nona_store.specs.Overlays.{HasCells, over_of, under, with_cell};
 
 use crate::store::Store;
 use std::alloc::{AllocError, Global};
@@ -35,7 +35,7 @@ impl Model for Overlay {
 impl Overlay {
     /// An overlay without cells. Takes no memory.
     pub fn begin(alloc: Global) -> Overlay
-        ensures { over_of result ≡ nothing_over }
+        ensures { result ≡ [] }
     {
         Overlay {
             cells: BTreeMap::new(alloc),

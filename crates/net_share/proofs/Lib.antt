@@ -1,0 +1,4 @@
+mod UnitRuns
+mod Moves
+mod Keeping
+mod Beginning

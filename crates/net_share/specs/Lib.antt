@@ -1,0 +1,5 @@
+pub mod Works
+pub mod Begins
+pub mod May
+pub mod Tasks
+pub mod Kept
