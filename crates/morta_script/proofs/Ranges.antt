@@ -1,5 +1,5 @@
--- The commands of a script: their numbers are in range, and they ask for `seq` alone.
-use Rattle.std.proofs.Common.{◌≡◌, ℕ, zero, suc, ◌+◌, ◌≤◌, List, [], ◌∷◌, codes, refl, sym, subst, ◌∙◌, arith, None, Some, Ok, Err}
+-- The commands of a script: their numbers are in range, and they ask for `seq` and `any` alone.
+use Rattle.std.proofs.Common.{◌≡◌, ◌⊎◌, inl, inr, ℕ, zero, suc, ◌+◌, ◌≤◌, List, [], ◌∷◌, codes, refl, subst, arith, None, Some, Ok, Err}
 use Rattle.std.specs.Prelude.{All}
 use Rattle.std.specs.declared.option.Option.{Option}
 use Rattle.std.specs.declared.result.Result.{Result}
@@ -12,18 +12,25 @@ use Rattle.nona_text.specs.Digits.{number_within}
 use Rattle.nona_text.proofs.Numbers.{within}
 use Rattle.weave.specs.declared.script.Command.{Command}
 use Rattle.weave.specs.declared.script.Command.TheVariants.{Use, Step, Pause}
-use Rattle.weave.specs.Following.{IsCommand, AreCommands}
+use Rattle.weave.specs.Following.{IsUntil, IsCommand, AreCommands}
 use Rattle.weave.specs.Replay.{UsesScheme}
-use Rattle.morta_task.specs.declared.limits.TheConstants.{TURNS}
+use Rattle.weave.specs.declared.limits.TheConstants.{LAST_TASK, MOVES}
+use Rattle.morta_task.specs.declared.limits.TheConstants.{TURNS, WORKERS}
+use Rattle.morta_task.specs.declared.schemes.Config.{Config}
 use Rattle.morta_task.specs.declared.schemes.Scheme.{Scheme}
-use Rattle.morta_task.specs.declared.schemes.Scheme.TheVariants.{Seq}
-use Rattle.morta_task.specs.Running.{seq_one}
-use Rattle.morta_script.specs.Lines.{Line, Nothing, Says, Wrong, words_of, is_comment, until_line, after_workers, after_seq, after_use, line_by, then_commands, with_line, commands_from, commands_of, command_bound}
+use Rattle.morta_task.specs.declared.schemes.Scheme.TheVariants.{Seq, Any}
+use Rattle.morta_task.specs.Running.{HasWorkers, IsConfig}
+use Rattle.morta_script.specs.Lines.{Line, Nothing, Says, Wrong, words_of, is_comment, config_with, config_of, until_line, after_config, with_config, after_use, step_line, after_step, after_pause, line_named, line_by, then_commands, with_line, commands_from, commands_of, command_bound}
+
+-- a version that a script may name
+abbrev pub IsNamed : Scheme → Type 0
+IsNamed s = (s ≡ Seq) ⊎ (s ≡ Any)
 
 -- what is true of each command that a line may have
-record OfUses (P : Command → Type 0) : Type 0 where
-  whole : P (Use seq_one None)
-  cut : (k : ℕ) → 1 ≤ k → k ≤ TURNS → P (Use seq_one (Some k))
+record OfLines (P : Command → Type 0) : Type 0 where
+  uses : (config : Config) (until : Option ℕ) → IsConfig config → IsNamed config.scheme → IsUntil until → P (Use config until)
+  steps : (task moves : ℕ) → task ≤ LAST_TASK → 1 ≤ moves → moves ≤ MOVES → P (Step task moves)
+  pauses : P Pause
 
 -- a line whose command, if it has one, is so
 abbrev IsFine : (Command → Type 0) → Line → Type 0
@@ -31,36 +38,73 @@ IsFine P Nothing = Unit {0}
 IsFine P (Says c) = P c
 IsFine P Wrong = Unit {0}
 
-until_some : (P : Command → Type 0) (o : Option ℕ) → OfUses P → ((n : ℕ) → o ≡ Some n → (1 ≤ n) × (n ≤ TURNS)) → IsFine P (until_line o)
-until_some P None uses h = tt
-until_some P (Some n) uses h = uses.cut n (h n refl).0 (h n refl).1
+-- a configuration, if there is one, is as it may be, and a script may name its version
+abbrev MayBe : Option Config → Type 0
+MayBe None = Unit {0}
+MayBe (Some config) = IsConfig config × IsNamed config.scheme
 
-until_fine : (P : Command → Type 0) (k : List ℕ) → OfUses P → IsFine P (until_line (number_within 1 TURNS k))
-until_fine P k uses = until_some P (number_within 1 TURNS k) uses (within 1 TURNS k)
+with_named : (scheme : Scheme) (o : Option ℕ) → IsNamed scheme → ((n : ℕ) → o ≡ Some n → HasWorkers scheme n) → MayBe (config_with scheme o)
+with_named scheme None named h = tt
+with_named scheme (Some n) named h = (h n refl, named)
 
-workers_fine : (P : Command → Type 0) (words : List (List ℕ)) → OfUses P → IsFine P (after_workers words)
-workers_fine P [] uses = uses.whole
-workers_fine P (word ∷ []) uses = tt
-workers_fine P (word ∷ k ∷ []) uses =
-    cond_both (bytes_eq word (codes "until")) (until_line (number_within 1 TURNS k)) Wrong (IsFine P) (λ e. until_fine P k uses) (λ e. tt)
-workers_fine P (word ∷ k ∷ more ∷ words) uses = tt
+config_named : (scheme workers : List ℕ) → MayBe (config_of scheme workers)
+config_named scheme workers =
+    cond_both (bytes_eq scheme (codes "seq")) (config_with Seq (number_within 1 1 workers)) _ MayBe
+    (λ e. with_named Seq (number_within 1 1 workers) (inl refl) (λ n e'. omega (arith, within 1 1 workers n e')))
+    (λ e. cond_both (bytes_eq scheme (codes "any")) (config_with Any (number_within 1 WORKERS workers)) None MayBe
+    (λ e'. with_named Any (number_within 1 WORKERS workers) (inr refl) (within 1 WORKERS workers)) (λ e'. tt))
 
-seq_fine : (P : Command → Type 0) (o : Option ℕ) (words : List (List ℕ)) → OfUses P → IsFine P (after_seq o words)
-seq_fine P None words uses = tt
-seq_fine P (Some n) words uses = workers_fine P words uses
+until_fine : (P : Command → Type 0) (config : Config) (o : Option ℕ) → OfLines P → IsConfig config → IsNamed config.scheme
+    → ((n : ℕ) → o ≡ Some n → (1 ≤ n) × (n ≤ TURNS)) → IsFine P (until_line config o)
+until_fine P config None lines has named h = tt
+until_fine P config (Some n) lines has named h = lines.uses config (Some n) has named (h n refl)
 
-use_fine : (P : Command → Type 0) (words : List (List ℕ)) → OfUses P → IsFine P (after_use words)
-use_fine P [] uses = tt
-use_fine P (scheme ∷ []) uses = tt
-use_fine P (scheme ∷ workers ∷ words) uses =
-    cond_both (bytes_eq scheme (codes "seq")) (after_seq (number_within 1 1 workers) words) Wrong (IsFine P)
-    (λ e. seq_fine P (number_within 1 1 workers) words uses) (λ e. tt)
+after_fine : (P : Command → Type 0) (config : Config) (words : List (List ℕ)) → OfLines P → IsConfig config → IsNamed config.scheme
+    → IsFine P (after_config config words)
+after_fine P config [] lines has named = lines.uses config None has named tt
+after_fine P config (word ∷ []) lines has named = tt
+after_fine P config (word ∷ k ∷ []) lines has named =
+    cond_both (bytes_eq word (codes "until")) (until_line config (number_within 1 TURNS k)) Wrong (IsFine P)
+    (λ e. until_fine P config (number_within 1 TURNS k) lines has named (within 1 TURNS k)) (λ e. tt)
+after_fine P config (word ∷ k ∷ more ∷ words) lines has named = tt
 
-line_fine : (P : Command → Type 0) (words : List (List ℕ)) → OfUses P → IsFine P (line_by words)
-line_fine P [] uses = tt
-line_fine P (word ∷ words) uses =
-    cond_both (is_comment word) Nothing _ (IsFine P) (λ e. tt)
-    (λ e. cond_both (bytes_eq word (codes "use")) (after_use words) Wrong (IsFine P) (λ e'. use_fine P words uses) (λ e'. tt))
+config_fine : (P : Command → Type 0) (o : Option Config) (words : List (List ℕ)) → OfLines P → MayBe o → IsFine P (with_config o words)
+config_fine P None words lines may = tt
+config_fine P (Some config) words lines may = after_fine P config words lines may.0 may.1
+
+use_fine : (P : Command → Type 0) (words : List (List ℕ)) → OfLines P → IsFine P (after_use words)
+use_fine P [] lines = tt
+use_fine P (scheme ∷ []) lines = tt
+use_fine P (scheme ∷ workers ∷ words) lines = config_fine P (config_of scheme workers) words lines (config_named scheme workers)
+
+moves_fine : (P : Command → Type 0) (task moves : Option ℕ) → OfLines P → ((n : ℕ) → task ≡ Some n → n ≤ LAST_TASK)
+    → ((n : ℕ) → moves ≡ Some n → (1 ≤ n) × (n ≤ MOVES)) → IsFine P (step_line task moves)
+moves_fine P None moves lines h h' = tt
+moves_fine P (Some t) None lines h h' = tt
+moves_fine P (Some t) (Some n) lines h h' = lines.steps t n (h t refl) (h' n refl).0 (h' n refl).1
+
+step_fine : (P : Command → Type 0) (words : List (List ℕ)) → OfLines P → IsFine P (after_step words)
+step_fine P [] lines = tt
+step_fine P (task ∷ []) lines = tt
+step_fine P (task ∷ moves ∷ []) lines =
+    moves_fine P (number_within 0 LAST_TASK task) (number_within 1 MOVES moves) lines
+    (λ n e. (within 0 LAST_TASK task n e).1) (within 1 MOVES moves)
+step_fine P (task ∷ moves ∷ more ∷ words) lines = tt
+
+pause_fine : (P : Command → Type 0) (words : List (List ℕ)) → OfLines P → IsFine P (after_pause words)
+pause_fine P [] lines = lines.pauses
+pause_fine P (word ∷ words) lines = tt
+
+named_fine : (P : Command → Type 0) (word : List ℕ) (words : List (List ℕ)) → OfLines P → IsFine P (line_named word words)
+named_fine P word words lines =
+    cond_both (bytes_eq word (codes "use")) (after_use words) _ (IsFine P) (λ e. use_fine P words lines)
+    (λ e. cond_both (bytes_eq word (codes "step")) (after_step words) _ (IsFine P) (λ e'. step_fine P words lines)
+    (λ e'. cond_both (bytes_eq word (codes "pause")) (after_pause words) Wrong (IsFine P) (λ e''. pause_fine P words lines) (λ e''. tt)))
+
+line_fine : (P : Command → Type 0) (words : List (List ℕ)) → OfLines P → IsFine P (line_by words)
+line_fine P [] lines = tt
+line_fine P (word ∷ words) lines =
+    cond_both (is_comment word) Nothing (line_named word words) (IsFine P) (λ e. tt) (λ e. named_fine P word words lines)
 
 none_fine : (P : Command → Type 0) → All P []
 none_fine P k d h = absurd (omega arith)
@@ -76,29 +120,40 @@ with_fine P (Says c) zero number later h hs = tt
 with_fine P (Says c) (suc room) number later h hs = then_fine P c (later room) h (hs room)
 with_fine P Wrong room number later h hs = tt
 
-all_fine : (P : Command → Type 0) (lines : List (List ℕ)) (number room : ℕ) → OfUses P → IfOk (commands_from lines number room) (All P)
-all_fine P [] number room uses = none_fine P
-all_fine P (line ∷ lines) number room uses =
-    with_fine P (line_by (words_of line)) room number (λ left. commands_from lines (number + 1) left) (line_fine P (words_of line) uses)
-    (λ left. all_fine P lines (number + 1) left uses)
+all_fine : (P : Command → Type 0) (texts : List (List ℕ)) (number room : ℕ) → OfLines P → IfOk (commands_from texts number room) (All P)
+all_fine P [] number room lines = none_fine P
+all_fine P (text ∷ texts) number room lines =
+    with_fine P (line_by (words_of text)) room number (λ left. commands_from texts (number + 1) left) (line_fine P (words_of text) lines)
+    (λ left. all_fine P texts (number + 1) left lines)
 
-all_so : (P : Command → Type 0) (text : List ℕ) (commands : List Command) → OfUses P → commands_of text ≡ Ok commands → All P commands
-all_so P text commands uses e =
-    let fine : IfOk (commands_of text) (All P) = all_fine P (lines_of text) 1 command_bound uses in
+all_so : (P : Command → Type 0) (text : List ℕ) (commands : List Command) → OfLines P → commands_of text ≡ Ok commands → All P commands
+all_so P text commands lines e =
+    let fine : IfOk (commands_of text) (All P) = all_fine P (lines_of text) 1 command_bound lines in
     rw e at fine
 
 pub in_range : (text : List ℕ) (commands : List Command) → commands_of text ≡ Ok commands → AreCommands commands
-in_range text commands = all_so IsCommand text commands (record { whole = (refl, tt); cut = λ k some few. (refl, (some, few)) })
+in_range text commands =
+    all_so IsCommand text commands (record {
+      uses = λ config until has named cut. (has, cut);
+      steps = λ task moves last some few. (last, some, few);
+      pauses = tt;
+    })
 
--- a `use` of `seq`
-abbrev UsesSeq : Command → Type 0
-UsesSeq (Use config until) = config.scheme ≡ Seq
-UsesSeq (Step task moves) = Unit {0}
-UsesSeq Pause = Unit {0}
+-- a command that, where it is a `use`, names a version that a script may name
+abbrev Names : Command → Type 0
+Names (Use config until) = IsNamed config.scheme
+Names (Step task moves) = Unit {0}
+Names Pause = Unit {0}
 
 -- a script asks for no other version
-pub seq_alone : (text : List ℕ) (commands : List Command) (s : Scheme) → commands_of text ≡ Ok commands → UsesScheme commands s → s ≡ Seq
-seq_alone text commands s e (config, until, (at, within, is), names) =
-    let all = all_so UsesSeq text commands (record { whole = refl; cut = λ k some few. refl }) e in
-    let here : UsesSeq (Use config until) = subst UsesSeq is (all at (Use config until) within) in
-    sym names ∙ here
+pub versions_named : (text : List ℕ) (commands : List Command) (s : Scheme) → commands_of text ≡ Ok commands → UsesScheme commands s → IsNamed s
+versions_named text commands s e (config, until, (at, within, is), names) =
+    let all =
+    all_so Names text commands (record {
+      uses = λ config until has named cut. named;
+      steps = λ task moves last some few. tt;
+      pauses = tt;
+    }) e
+    in
+    let here : Names (Use config until) = subst Names is (all at (Use config until) within) in
+    subst IsNamed names here

@@ -1,21 +1,24 @@
 ghost use Rattle.std.specs.Prelude.{◌≡◌};
+ghost use Rattle.nona_plans.specs.Units.{reductions_of};
 ghost use Rattle.nona_guard.specs.Guards.{IsGuardOf};
 
 use nona_guard::Guard;
+use nona_num::Fold;
 use nona_tree::{Loop, Plan};
 use nona_units::Units;
 use std::marker::Model;
 use std::snapshot::Snapshot;
 
 /// A region of a program: the code of the statements at the top of its loop's body, the plan of the versions that it has
-/// beside `seq`, and the guard that tells of an entry whether they may run. Contracts see the loop and the plan; nothing of the
-/// loop's tree is kept when the program runs.
+/// beside `seq`, the guard that tells of an entry whether they may run, and the reductions of the loop. Contracts see the loop
+/// and the plan; nothing of the loop's tree is kept when the program runs.
 #[derive(Drop)]
 pub struct RegionCode {
     looped: Snapshot<Loop>,
     place: u32,
     plan: Plan,
     guard: Guard,
+    reductions: Vec<(u32, Fold)>,
     units: Units,
 }
 
@@ -36,11 +39,18 @@ impl Model for RegionCode {
 }
 
 impl RegionCode {
-    /// The region of this loop, with a plan, the loop's guard, and the code of the statements of its body. Nothing of the loop is
-    /// copied.
-    pub fn of(looped: &Loop, plan: Plan, guard: Guard, units: Units) -> RegionCode
+    /// The region of this loop, with a plan, the loop's guard and its reductions, and the code of the statements of its body.
+    /// Nothing of the loop is copied.
+    pub fn of(
+        looped: &Loop,
+        plan: Plan,
+        guard: Guard,
+        reductions: Vec<(u32, Fold)>,
+        units: Units,
+    ) -> RegionCode
         requires units { units.body ≡ looped.now.body }
         requires guard { IsGuardOf looped.now guard }
+        requires reductions { reductions.items ≡ reductions_of looped.now }
         ensures { result ≡ record { looped = looped.now; plan = plan } }
     {
         RegionCode {
@@ -48,6 +58,7 @@ impl RegionCode {
             place: looped.at,
             plan,
             guard,
+            reductions,
             units,
         }
     }
@@ -71,6 +82,14 @@ impl RegionCode {
         ensures { IsGuardOf self.now.looped result.now }
     {
         &self.guard
+    }
+
+    /// The reductions of its loop in order of id: the scalars declared before the loop that its body names as the left side of
+    /// an assignment by one fold alone, each with this fold.
+    pub fn reductions(&self) -> &[(u32, Fold)]
+        ensures { result.now ≡ reductions_of self.now.looped }
+    {
+        &self.reductions
     }
 
     /// The code of the statements at the top of its loop's body, in text order.

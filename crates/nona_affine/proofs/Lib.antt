@@ -11,3 +11,4 @@ pub mod Pouring
 pub mod Alike
 pub mod Joining
 pub mod Scaling
+pub mod Putting

@@ -3,3 +3,4 @@ pub mod Lists
 pub mod Steps
 pub mod Spotted
 pub mod Tallies
+pub mod Put

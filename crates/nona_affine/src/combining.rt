@@ -1,7 +1,8 @@
 //! What the operators make of forms that are being worked out.
 
-ghost use Rattle.std.specs.Prelude.{◌≡◌, ◌++◌, None, Some, if◌then◌else◌, negsuc, IfOk};
-ghost use Rattle.nona_forms.specs.Affine.{if_bounded, times_form, scalar_form, on_form, among, form_by};
+ghost use Rattle.std.specs.Prelude.{◌≡◌, List, [], ◌∷◌, ◌++◌, None, Some, if◌then◌else◌, negsuc, IfOk};
+ghost use Rattle.nona_forms.specs.Affine.{Affine, if_bounded, times_form, constant_form, scalar_form, among, form_by};
+ghost use Rattle.nona_affine.specs.Put.{IsPut};
 ghost use Rattle.nona_tree.specs.declared.trees.Op.TheVariants as op;
 
 use crate::names::{Ids, Names};
@@ -34,30 +35,53 @@ fn combine(alloc: Global, op: Op, left: Tally, right: Tally) -> Result<Option<Ta
     }
 }
 
-/// A form, if there is one, times -1.
-pub fn negated(form: Option<Tally>) -> Option<Tally>
-    ensures { result ≡ on_form form (λ f. if_bounded (times_form (negsuc 0) f)) }
+/// Puts a form behind others, if there is one. `false` says that there is none.
+fn put(form: Option<Tally>, forms: &mut Vec<Tally>) -> Result<bool, AllocError>
+    ensures { IfOk result (IsPut form forms.old.items forms.new.items) }
 {
     match form {
-        None => None,
-        Some(form) => Some(form.turned()),
+        None => Ok(false),
+        Some(form) => {
+            forms.push(form)?;
+            Ok(true)
+        }
     }
 }
 
-/// What an operator makes of two forms, if there are both.
-pub fn operated(
-    alloc: Global,
-    op: Op,
-    left: Option<Tally>,
-    right: Option<Tally>,
-) -> Result<Option<Tally>, AllocError>
-    ensures { IfOk result (λ o. o ≡ on_form left (λ f. on_form right (λ g. form_by op f g))) }
+/// Puts the form of a number behind others, if it has one.
+#[inline(never)]
+pub fn put_number(alloc: Global, number: i64, forms: &mut Vec<Tally>) -> Result<bool, AllocError>
+    ensures { IfOk result (IsPut (if_bounded (constant_form number)) forms.old.items forms.new.items) }
 {
-    match left {
-        None => Ok(None),
-        Some(left) => match right {
-            None => Ok(None),
-            Some(right) => combine(alloc, op, left, right),
+    put(Tally::of_number(alloc, number as i128), forms)
+}
+
+/// Takes the last form, and puts its opposite in its place.
+#[inline(never)]
+pub fn turn_last(forms: &mut Vec<Tally>) -> Result<bool, AllocError>
+    ensures { (before : List Affine) (f : Affine) → forms.old.items ≡ before ++ f ∷ []
+        → IfOk result (IsPut (if_bounded (times_form (negsuc 0) f)) before forms.new.items) }
+{
+    match forms.pop() {
+        None => Ok(false),
+        Some(form) => put(Some(form.turned()), forms),
+    }
+}
+
+/// Takes the last two forms, and puts what an operator makes of them in their place, where that is a form.
+#[inline(never)]
+pub fn combine_last(alloc: Global, op: Op, forms: &mut Vec<Tally>) -> Result<bool, AllocError>
+    ensures { (before : List Affine) (f g : Affine) → forms.old.items ≡ (before ++ f ∷ []) ++ g ∷ []
+        → IfOk result (IsPut (form_by op f g) before forms.new.items) }
+{
+    match forms.pop() {
+        None => Ok(false),
+        Some(right) => match forms.pop() {
+            None => Ok(false),
+            Some(left) => {
+                let form = combine(alloc, op, left, right)?;
+                put(form, forms)
+            }
         },
     }
 }
@@ -71,12 +95,7 @@ fn may_occur(id: u32, inner: &Ids, names: &Names) -> bool
 }
 
 /// The form of a scalar, if it may occur.
-pub fn scalar(
-    alloc: Global,
-    id: u32,
-    inner: &Ids,
-    names: &Names,
-) -> Result<Option<Tally>, AllocError>
+fn scalar(alloc: Global, id: u32, inner: &Ids, names: &Names) -> Result<Option<Tally>, AllocError>
     ensures { IfOk result (λ o. o ≡ (if among id (inner.now ++ names.now) then Some (scalar_form id) else None)) }
 {
     if may_occur(id, inner, names) {
@@ -85,4 +104,19 @@ pub fn scalar(
     } else {
         Ok(None)
     }
+}
+
+/// Puts the form of a scalar behind others, if it may occur.
+#[inline(never)]
+pub fn put_scalar(
+    alloc: Global,
+    id: u32,
+    inner: &Ids,
+    names: &Names,
+    forms: &mut Vec<Tally>,
+) -> Result<bool, AllocError>
+    ensures { IfOk result (IsPut (if among id (inner.now ++ names.now) then Some (scalar_form id) else None) forms.old.items forms.new.items) }
+{
+    let form = scalar(alloc, id, inner, names)?;
+    put(form, forms)
 }

@@ -2,30 +2,37 @@
 
 ghost use Rattle.std.specs.Prelude.{◌≡◌, ◌++◌, IfOk};
 ghost use Rattle.nona_forms.specs.Affine.{form_of};
+ghost use Rattle.nona_affine.specs.Put.{IsPut};
 
-use crate::combining::{negated, operated, scalar};
+use crate::combining::{combine_last, put_number, put_scalar, turn_last};
 use crate::names::{Ids, Names};
 use crate::tallies::Tally;
 use nona_forms::Form;
 use nona_tree::Expr;
 use std::alloc::{AllocError, Global};
 
-/// The form of an expression in which the indices of some inner loops and some other scalars may occur, while it is worked out.
+/// Puts the form of an expression behind others, if it has one; `false` says that it has none.
+///
+/// An expression may be some 4,096 levels deep: 64 brackets with 64 operators in each. So a level takes little of the stack
+/// here: the forms of its parts stand in a list, and what is large is in functions of their own.
 #[tactic(auto, using(crate::proofs::FormEquations::form_laws))]
-fn tally_inside(
+fn put_form(
     alloc: Global,
     e: &Expr,
     inner: &Ids,
     names: &Names,
-) -> Result<Option<Tally>, AllocError>
-    ensures { IfOk result (λ o. o ≡ form_of e.now (inner.now ++ names.now)) }
+    forms: &mut Vec<Tally>,
+) -> Result<bool, AllocError>
+    ensures { IfOk result (IsPut (form_of e.now (inner.now ++ names.now)) forms.old.items forms.new.items) }
 {
     match e {
-        Expr::Number(number) => Ok(Tally::of_number(alloc, *number as i128)),
-        Expr::Scalar(x) => scalar(alloc, x.id, inner, names),
+        Expr::Number(number) => put_number(alloc, *number, forms),
+        Expr::Scalar(x) => put_scalar(alloc, x.id, inner, names, forms),
         Expr::Neg(part) => {
-            let inside = tally_inside(alloc, part.get(), inner, names)?;
-            Ok(negated(inside))
+            if !put_form(alloc, part.get(), inner, names, forms)? {
+                return Ok(false);
+            }
+            turn_last(forms)
         }
         Expr::Binary {
             op,
@@ -33,11 +40,15 @@ fn tally_inside(
             right,
             ..
         } => {
-            let first = tally_inside(alloc, left.get(), inner, names)?;
-            let second = tally_inside(alloc, right.get(), inner, names)?;
-            operated(alloc, *op, first, second)
+            if !put_form(alloc, left.get(), inner, names, forms)? {
+                return Ok(false);
+            }
+            if !put_form(alloc, right.get(), inner, names, forms)? {
+                return Ok(false);
+            }
+            combine_last(alloc, *op, forms)
         }
-        Expr::Cell(_) | Expr::Len(_) | Expr::Not(_) => Ok(None),
+        Expr::Cell(_) | Expr::Len(_) | Expr::Not(_) => Ok(false),
     }
 }
 
@@ -50,11 +61,14 @@ pub fn form_inside(
 ) -> Result<Option<Form>, AllocError>
     ensures { IfOk result (λ o. o ≡ form_of e.now (inner.now ++ names.now)) }
 {
-    let tally = tally_inside(alloc, e, inner, names)?;
-    match tally {
+    let mut forms = Vec::new(alloc);
+    if !put_form(alloc, e, inner, names, &mut forms)? {
+        return Ok(None);
+    }
+    match forms.pop() {
         None => Ok(None),
-        Some(tally) => {
-            let form = tally.into_form(alloc)?;
+        Some(form) => {
+            let form = form.into_form(alloc)?;
             Ok(Some(form))
         }
     }

@@ -1,7 +1,7 @@
 //! The store of a program.
 
 use crate::programs::checked_of;
-use nona_store::{Overlay, Store, read_numbers};
+use nona_store::{Bank, Overlay, Share, ShareBank, Store, read_numbers};
 use std::alloc::{AllocError, Global};
 use std::process::Abort;
 use std::test::Fail;
@@ -55,5 +55,19 @@ fn an_overlay_has_what_was_last_put(rt: HostRuntime) -> Result<(), Fail> {
         overlay.get(0, 1),
     ];
     assert_eq!(rt; cells, [Some(-6), Some(7), None, None]);
+    Ok(())
+}
+
+#[test]
+fn a_share_has_what_its_bank_was_given(rt: HostRuntime) -> Result<(), Fail> {
+    let alloc = rt.alloc();
+    let store = started(&rt, alloc)?;
+    let mut bank = ShareBank::over(&store, Share::begin(alloc, Vec::new(alloc)));
+    bank.push_scalar(9)?;
+    bank.print(-1)?;
+    let share = bank.into_share();
+    assert_eq!(rt; share.scalars(), [9].as_slice());
+    assert_eq!(rt; share.printed(), [-1].as_slice());
+    assert_eq!(rt; share.overlay().get(0, 0), None);
     Ok(())
 }

@@ -62,7 +62,7 @@ fits_below low last high h g some within = omega (arith, ints)
 
 last_fits : (l : Loop) (entry : Memory) (low last : ℤ) → IsLoopEntry l entry low last → low <ℤ last → IsI64 last
 last_fits l entry low last h some =
-    fits_below low last h.ends.0 (low_fits l entry low last h) (fits_found (value_of l.high entry) h.ends.0 (value_fits l.high entry h.written.1 h.numbers) h.ends.1) some h.ends.2
+    fits_below low last h.ends.0 (low_fits l entry low last h) (fits_found (value_of l.high entry) h.ends.0 (value_fits l.high entry h.written.1 h.numbers) h.ends.1) some (h.ends.2 some)
 
 before_last : (v last : ℤ) → v <ℤ last → v ≤ℤ (last -ℤ pos 1)
 before_last v last h = omega (arith, ints)

@@ -160,6 +160,9 @@ forms_named e names f form = let h : IsForm names (Some f) = subst (IsForm names
 before_high : (i last high : ℤ) → i <ℤ last → last ≤ℤ high → i <ℤ high
 before_high i last high h g = omega (arith, ints)
 
+some_between : (low i last : ℤ) → low ≤ℤ i → i <ℤ last → low <ℤ last
+some_between low i last h g = omega (arith, ints)
+
 -- accesses that are told apart touch no cell both, in different iterations
 pub apart_separates : (l : Loop) (entry : Memory) (low last : ℤ) (x y : Reference) → IsLoopEntry l entry low last → IsI64Expr l.low → IsI64Expr l.high → IsSoundReference l.index.id x → IsSoundReference l.index.id y
     → is_apart (shape_of l) (spot_of (names_of l) x) (spot_of (names_of l) y) ≡ true
@@ -175,8 +178,8 @@ apart_separates l entry low last x y h of_low of_high sound_x sound_y apart i j 
     let at_m : scalar_at m l.index.id ≡ i = left.0.values.0 in
     let at_k : scalar_at k l.index.id ≡ j = right.0.values.0 in
     let bounds = fixed_of (form_of l.low names) (form_of l.high names) in
-    let in_i : IsIn bounds i = between l.low l.high names entry low h.ends.0 i of_low of_high h.numbers h.begins h.ends.1 i1 (before_high i last h.ends.0 i2 h.ends.2) in
-    let in_j : IsIn bounds j = between l.low l.high names entry low h.ends.0 j of_low of_high h.numbers h.begins h.ends.1 j1 (before_high j last h.ends.0 j2 h.ends.2) in
+    let in_i : IsIn bounds i = between l.low l.high names entry low h.ends.0 i of_low of_high h.numbers h.begins h.ends.1 i1 (before_high i last h.ends.0 i2 (h.ends.2 (some_between low i last i1 i2))) in
+    let in_j : IsIn bounds j = between l.low l.high names entry low h.ends.0 j of_low of_high h.numbers h.begins h.ends.1 j1 (before_high j last h.ends.0 j2 (h.ends.2 (some_between low j last j1 j2))) in
     let two : AreTwo (shape_of l) (spot_of names x) (spot_of names y) f (scalar_at m) (scalar_at k) = record {
       region_left = subst (IsIn bounds) (sym at_m) in_i;
       region_right = subst (IsIn bounds) (sym at_k) in_j;

@@ -370,7 +370,8 @@ high_fits l entry low last h = fits_found (value_of l.high entry) h.ends.0 (valu
 
 index_fits : (l : Loop) (entry : Memory) (low last i : ℤ) → IsLoopEntry l entry low last → low ≤ℤ i → i <ℤ last → IsI64 i
 index_fits l entry low last i h from to =
-    between_fits low h.ends.0 i (low_fits l entry low last h) (high_fits l entry low last h) from (omega (arith, ints, to, h.ends.2))
+    let top = h.ends.2 (omega (arith, ints, from, to)) in
+    between_fits low h.ends.0 i (low_fits l entry low last h) (high_fits l entry low last h) from (omega (arith, ints, to, top))
 
 as_access : (l : Loop) (entry : Memory) (i : ℤ) (d : Deed) → IsNaming entry (given_in l entry i) (references_all l.body) d → IsOfAccess l entry i d
 as_access l entry i (Deed.reads id) h = tt
@@ -401,12 +402,15 @@ begins_values entry (id ∷ ids) = (refl, begins_values entry ids)
 below_last : (low last high : ℤ) (j k : ℕ) → j < k → (low +ℤ pos k) ≤ℤ last → last ≤ℤ high → (low ≤ℤ (low +ℤ pos j)) × ((low +ℤ pos j) <ℤ high)
 below_last low last high j k less within top = (omega (arith, ints, less, within, top), omega (arith, ints, less, within, top))
 
+some_below : (low last : ℤ) (j k : ℕ) → j < k → (low +ℤ pos k) ≤ℤ last → low <ℤ last
+some_below low last j k less within = omega (arith, ints, less, within)
+
 pub begins_after : (e : Entry) (k : ℕ) → IsLoopEntry e.looped e.store e.low e.last → IsSteady (For e.looped) [] → (e.low +ℤ pos k) ≤ℤ e.last → MayBegin e.looped e.store (after e k).store
 begins_after e k h steady within =
     let l = e.looped in
     let row = hidden-the_row-Stmt-0 l.body in
     let fixed = map (as_in e.store) (invariants_of l) in
     let first : MayBegin l e.store e.store = record { depth = refl; kept = record { numbers = h.numbers; sizes = λ a. refl; values = begins_values e.store (invariants_of l) } } in
-    let stood = turns_good (IsStood e.store fixed (length e.store.scalars)) (turn (run_row row e.turns)) e.low k (λ j less m good. let in_bounds = below_last e.low e.last h.ends.0 j k less within h.ends.2 in turn_stood e.store fixed (length e.store.scalars) l.index row e.turns (e.low +ℤ pos j) m (steady_given l e.store steady) h.written.2 (between_fits e.low h.ends.0 (e.low +ℤ pos j) (low_fits l e.store e.low e.last h) (high_fits l e.store e.low e.last h) in_bounds.0 in_bounds.1) h.scoped.0 good) e.store (begin_stood l e.store e.store e.low e.last h first) in
+    let stood = turns_good (IsStood e.store fixed (length e.store.scalars)) (turn (run_row row e.turns)) e.low k (λ j less m good. let in_bounds = below_last e.low e.last h.ends.0 j k less within (h.ends.2 (some_below e.low e.last j k less within)) in turn_stood e.store fixed (length e.store.scalars) l.index row e.turns (e.low +ℤ pos j) m (steady_given l e.store steady) h.written.2 (between_fits e.low h.ends.0 (e.low +ℤ pos j) (low_fits l e.store e.low e.last h) (high_fits l e.store e.low e.last h) in_bounds.0 in_bounds.1) h.scoped.0 good) e.store (begin_stood l e.store e.store e.low e.last h first) in
     let same = subst (IsStood e.store fixed (length e.store.scalars)) (λ i. (first_turns (turn (run_body l.body i e.turns)) e.low k e.store).store) stood in
     record { depth = same.deep; kept = same.such }

@@ -10,13 +10,13 @@ use Rattle.nona_forms.specs.Affine.{Affine, form_at, form_of}
 use Rattle.nona_forms.specs.References.{Reference, IsPossibleAt, Touches, names_of}
 use Rattle.nona_forms.specs.Verdicts.{names_inside}
 
--- a loop is entered with this store: its bounds have values there, and its iterations are those from low to last - 1
+-- a loop is entered with this store: its bounds have values there, and its iterations are those from low to last - 1, if any
 pub record IsLoopEntry (l : Loop) (entry : Memory) (low last : ℤ) : Type 0 where
   pub numbers : AreI64 entry
   pub written : IsI64Stmt (For l)
   pub scoped : IsScoped (For l) (length entry.scalars) (length entry.arrays)
   pub begins : value_of l.low entry ≡ Ok low
-  pub ends : (high : ℤ) × (value_of l.high entry ≡ Ok high) × (last ≤ℤ high)
+  pub ends : (high : ℤ) × (value_of l.high entry ≡ Ok high) × (low <ℤ last → last ≤ℤ high)
 
 -- the exact value of an access's index lies in the array, wherever it may be evaluated in iteration i
 abbrev pub LiesAt : Loop → Memory → Reference → ℤ → Type 0

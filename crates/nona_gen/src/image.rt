@@ -17,6 +17,7 @@ use crate::main_code::emit_program;
 use crate::units::{checked_has_code, generate_unit, regions_have_code};
 use morta_task::{Image, RegionCode};
 use nona_code::{Sound, verify};
+use nona_graph::reductions;
 use nona_guard::Guard;
 use nona_stages::{Plans, Seen, regions};
 use nona_tree::{Checked, Loop, Stmt};
@@ -35,7 +36,7 @@ fn codes_of(alloc: Global, body: &[Stmt]) -> Result<Vec<Sound>, AllocError>
     Ok(codes)
 }
 
-/// The region of this loop, with its plan, its guard and the code of the statements at the top of its body.
+/// The region of this loop, with its plan, its guard, its reductions and the code of the statements at the top of its body.
 fn region_of(alloc: Global, l: &Loop, plans: &Plans<'_>) -> Result<RegionCode, AllocError>
     requires code { BodyHasCode l.now }
     requires calm { IsTrue (is_calm l.now) }
@@ -44,7 +45,9 @@ fn region_of(alloc: Global, l: &Loop, plans: &Plans<'_>) -> Result<RegionCode, A
     let codes = codes_of(alloc, l.body.as_slice())?;
     let plan = plans.plan(alloc, l)?;
     let guard = Guard::of(alloc, l)?;
-    Ok(RegionCode::of(l, plan, guard, Units::of(&l.body, codes)))
+    let reductions = reductions(alloc, l)?;
+    let units = Units::of(&l.body, codes);
+    Ok(RegionCode::of(l, plan, guard, reductions, units))
 }
 
 /// The regions of these loops, in the same order.
@@ -94,13 +97,13 @@ fn main_of(alloc: Global, program: &Checked, plans: &Plans<'_>) -> Result<Sound,
 }
 
 /// The image of a checked program with the regions that are seen of it, each with its plan: the code of its main statements,
-/// which stops at them, and of the statements at the top of their bodies, and the guard of each region, all of which have to be
-/// calm.
+/// which stops at them, and of the statements at the top of their bodies, and the guard and the reductions of each region, all of
+/// which have to be calm.
 ///
 /// All code is verified, and stands for its statements. A place that is seen where no word `for` stands, or that of a loop
-/// inside a region, names none. Takes time and memory in proportion to the program and to the affine forms of its regions' indices
-/// and inner bounds, and for each loop outside regions a time logarithmic in the number of regions. It is refused for want of
-/// memory alone, and so is code of 2^31 instructions or more.
+/// inside a region, names none. Takes time and memory in proportion to the program, to the affine forms of its regions' indices
+/// and inner bounds and, for each region, to the scalars that are visible before it, and for each loop outside regions a time
+/// logarithmic in the number of regions. It is refused for want of memory alone, and so is code of 2^31 instructions or more.
 pub fn generate(alloc: Global, program: &Checked, seen: &[Seen]) -> Result<Image, AllocError>
     requires calm { AreCalm (regions_all (is_among (seen_places seen.now)) program.now.body) }
     ensures { IfOk result (λ image. image ≡ image_by program.now seen.now) }

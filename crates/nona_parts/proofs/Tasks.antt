@@ -73,21 +73,22 @@ thread_next s h k below =
 pub thread_begins : (s : Sharing) → MayBeShared s → (k : ℕ) → k ≤ s.count → MayBegin s.entry.looped s.entry.store (thread s k)
 thread_begins s h k below = begins_after s.entry (s.first + k) h.entered h.steady (inside s h k below)
 
-body_numbers : (s : Sharing) → MayBeShared s → AreI64Stmts s.entry.looped.body
+pub body_numbers : (s : Sharing) → MayBeShared s → AreI64Stmts s.entry.looped.body
 body_numbers s h = statements_numbers s.entry.looped.body h.entered.written.2
 
 -- an index lies between the bounds' values, which have 64 bits
 between_fits : (a b v : ℤ) → IsI64 a → IsI64 b → a ≤ℤ v → v <ℤ b → IsI64 v
 between_fits a b v h g from to = omega (arith, ints, h, g, from, to)
 
-index_number : (s : Sharing) → MayBeShared s → (k : ℕ) → k < s.count → IsI64 (index_of s.entry s.first k)
+pub index_number : (s : Sharing) → MayBeShared s → (k : ℕ) → k < s.count → IsI64 (index_of s.entry s.first k)
 index_number s h k below =
     let e = s.entry in
     let in_low = fits_found (value_of e.looped.low e.store) e.low (value_fits e.looped.low e.store h.entered.written.0 h.entered.numbers) h.entered.begins in
     let in_high = fits_found (value_of e.looped.high e.store) h.entered.ends.0 (value_fits e.looped.high e.store h.entered.written.1 h.entered.numbers) h.entered.ends.1 in
     let last = to_last s h k below in
-    let top = h.entered.ends.2 in
-    between_fits e.low h.entered.ends.0 (index_of e s.first k) in_low in_high (from_low s k) (omega (arith, ints, last, top))
+    let first = from_low s k in
+    let top = h.entered.ends.2 (omega (arith, ints, last, first)) in
+    between_fits e.low h.entered.ends.0 (index_of e s.first k) in_low in_high first (omega (arith, ints, last, top))
 
 -- two accesses in two iterations
 
@@ -341,7 +342,7 @@ other_next s t k apart is_done =
     ap (λ r. then_do r (step (s.owner k == t) s.entry s.first k)) (as_done (turns_to s t k) is_done)
     ∙ ap (λ b. step b s.entry s.first k (turns_to s t k).store) (other_is_false (s.owner k) t apart)
 
-declare_numbers : (v : ℤ) (m : Memory) → IsI64 v → AreI64 m → AreI64 (declare v m)
+pub declare_numbers : (v : ℤ) (m : Memory) → IsI64 v → AreI64 m → AreI64 (declare v m)
 declare_numbers v m fits h = record { scalars = All-append IsI64 m.scalars (v ∷ []) h.scalars (All-cons IsI64 v [] fits (All-nil IsI64)); arrays = h.arrays; printed = h.printed }
 
 iteration_numbers : (s : Sharing) → MayBeShared s → (k : ℕ) (q : Memory) → k < s.count → AreI64 q → AreI64 (iteration s.entry s.first k q).store

@@ -5,6 +5,7 @@ ghost use Rattle.std.specs.List.{AllByRecursion, list_any};
 ghost use Rattle.nona_tree.specs.declared.trees.Loop.{Loop};
 ghost use Rattle.nona_plans.specs.declared.graphs.Component.{Component};
 ghost use Rattle.nona_plans.specs.declared.graphs.Graph.{Graph};
+ghost use Rattle.nona_plans.specs.declared.limits.TheConstants as limits;
 ghost use Rattle.nona_plans.specs.Lawful.{IsGraph, IsComponent, AreClosed, AreLawful};
 ghost use Rattle.nona_plans.specs.Plans.{plan_of, IsLawfulPlan};
 ghost use Rattle.nona_plans.specs.Stages.{stages_of, is_ready};
@@ -36,4 +37,11 @@ pub fn stages_are_lawful()
 /// Says that the plan of a loop is lawful.
 pub fn plan_is_lawful()
     ensures { (l : Loop) → IsLawfulPlan l (plan_of l) }
+{}
+
+/// Says how many stages, parallel stages and values that cross from one stage to the next a plan has at most.
+pub fn limits_are()
+    ensures stages { limits.STAGES ≡ 7 }
+    ensures parallel { limits.PARALLEL ≡ 3 }
+    ensures crossing { limits.CROSSING ≡ 8 }
 {}

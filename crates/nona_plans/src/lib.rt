@@ -12,7 +12,7 @@ mod limits;
 
 pub use graphs::{Component, Graph, Local, Mention, Tie};
 pub use laws::{
-    graph_is_between_units, leads_where_walk, plan_is_lawful, some_component_is_ready,
+    graph_is_between_units, leads_where_walk, limits_are, plan_is_lawful, some_component_is_ready,
     stages_are_lawful,
 };
 pub use limits::{CROSSING, PARALLEL, STAGES};

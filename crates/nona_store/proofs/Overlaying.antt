@@ -1,19 +1,19 @@
 -- Cells that are put on an overlay, and an overlay that is written into a store.
-use Rattle.std.proofs.Common.{◌≡◌, ◌≢◌, ◌<◌, ◌≤◌, ◌+◌, ℕ, zero, suc, nat_lt, ◌==◌, ◌&&◌, Bool, true, false, if◌then◌else◌, cond, ℤ, pos, List, [], ◌∷◌, length, refl, sym, ap, subst, ◌∙◌, arith, Option, None, Some, slice_set, slice_index_or}
+use Rattle.std.proofs.Common.{◌≡◌, ◌≢◌, ◌<◌, ◌≤◌, ◌+◌, ℕ, zero, suc, nat_lt, ◌==◌, ◌&&◌, Bool, true, false, if◌then◌else◌, cond, ℤ, pos, List, [], ◌∷◌, length, refl, sym, ap, subst, ◌∙◌, arith, Option, None, Some, slice_set, slice_index_or, ◌⊎◌, inl, inr}
 use Rattle.std.specs.Prelude.{All}
 use Rattle.std.specs.List.{AllByRecursion}
 use Rattle.std.proofs.lemmas.List.{length-set}
 use Rattle.std.proofs.lemmas.List.Elements.{All-from_recursion, recursion_from_All}
 use Rattle.std.specs.declared.cmp.Ordering.{Ordering}
 use Rattle.std.specs.declared.cmp.Ordering.TheVariants.{Less, Equal, Greater}
-use Rattle.std.specs.Ordering.{is_eq, nat_cmp, ordering_then, match_ordering}
+use Rattle.std.specs.Ordering.{int_eq, is_eq, nat_cmp, ordering_then, match_ordering}
 use Rattle.std.specs.Option.{unwrap_or}
 use Rattle.std.specs.BTreeMap.{insert_entry, is_at}
 use Rattle.std.specs.List.Sorted.{IsStrictlySortedBy}
 use Rattle.std.specs.Map.{lookup, keys_of, values_of}
 use Rattle.nona_tree.specs.Memory.{Memory, cells_of, cell_at, put_cell}
 use Rattle.nona_store.specs.declared.overlay.Place.{Place}
-use Rattle.nona_store.specs.Overlays.{place_cmp, over_of, with_cell, cells_under, arrays_under, under, HasCells}
+use Rattle.nona_store.specs.Overlays.{place_cmp, over_of, with_cell, cells_under, arrays_under, under, HasCells, changed_or, with_changes}
 
 -- what is so of all values and of a new one is so of all with it
 inserted_by : {K X : Type 0} (P : X → Type 0) (o : Ordering) (e : K × X) (es more : List (K × X)) (k : K) (v : X) → P v → AllByRecursion P (values_of (e ∷ es))
@@ -153,7 +153,7 @@ under_none : (k : ℕ) (cells : List ℤ) → cells_under (λ p. None) k cells �
 under_none k [] = refl
 under_none k (v ∷ cells) = ap (λ (rest : List ℤ). v ∷ rest) (under_none (suc k) cells)
 
-arrays_under_none : (k : ℕ) (arrays : List (List ℤ)) → arrays_under (λ a p. None) k arrays ≡ arrays
+pub arrays_under_none : (k : ℕ) (arrays : List (List ℤ)) → arrays_under (λ a p. None) k arrays ≡ arrays
 arrays_under_none k [] = refl
 arrays_under_none k (cells ∷ arrays) = λ i. under_none 0 cells i ∷ arrays_under_none (suc k) arrays i
 
@@ -250,3 +250,139 @@ covered m over a p within =
 -- and its array is as long as it was
 pub as_long : (m : Memory) (over : ℕ → ℕ → Option ℤ) (a : ℕ) → length (cells_of (under over m) a) ≡ length (cells_of m a)
 as_long m over a = ap length (under_arrays over 0 a m.arrays) ∙ under_length (over (0 + a)) 0 (cells_of m a)
+
+-- as many arrays stand under an overlay
+pub as_many : (over : ℕ → ℕ → Option ℤ) (k : ℕ) (arrays : List (List ℤ)) → length (arrays_under over k arrays) ≡ length arrays
+as_many over k [] = refl
+as_many over k (cells ∷ arrays) = ap (λ n. suc n) (as_many over (suc k) arrays)
+
+-- a cell that is set in what stands under an overlay is one that is put on the overlay
+over_cells : (over put_there : ℕ → Option ℤ) (k at : ℕ) (v : ℤ) (cells : List ℤ) → put_there (k + at) ≡ Some v
+    → ((p : ℕ) → p ≢ k + at → put_there p ≡ over p) → slice_set (cells_under over k cells) at v ≡ cells_under put_there k cells
+over_cells over put_there k at v [] there others = refl
+over_cells over put_there k zero v (w ∷ cells) there others =
+    let here : k + 0 ≡ k = omega arith in
+    let new : put_there k ≡ Some v = ap put_there (sym here) ∙ there in
+    λ i. ap (λ (o : Option ℤ). unwrap_or o w) (sym new) i
+    ∷ same_cells over put_there (suc k) cells (λ p above. sym (others p (λ is. absurd (omega (arith, is, above))))) i
+over_cells over put_there k (suc at) v (w ∷ cells) there others =
+    let moved : k + suc at ≡ suc k + at = omega arith in
+    λ i. unwrap_or (sym (others k (λ is. absurd (omega (arith, is)))) i) w
+    ∷ over_cells over put_there (suc k) at v cells (ap put_there (sym moved) ∙ there) (λ p differs. others p (λ is. differs (is ∙ moved))) i
+
+over_arrays : (over put_there : ℕ → ℕ → Option ℤ) (k a at : ℕ) (v : ℤ) (arrays : List (List ℤ)) → put_there (k + a) at ≡ Some v
+    → ((p : ℕ) → p ≢ at → put_there (k + a) p ≡ over (k + a) p) → ((b p : ℕ) → b ≢ k + a → put_there b p ≡ over b p)
+    → slice_set (arrays_under over k arrays) a (slice_set (slice_index_or (arrays_under over k arrays) a []) at v) ≡ arrays_under put_there k arrays
+over_arrays over put_there k a at v [] there near far = refl
+over_arrays over put_there k zero at v (cells ∷ arrays) there near far =
+    let here : k + 0 ≡ k = omega arith in
+    let first : 0 + at ≡ at = omega arith in
+    λ i. over_cells (over k) (put_there k) 0 at v cells (ap (put_there k) first ∙ ap (λ n. put_there n at) (sym here) ∙ there)
+    (λ p differs. ap (λ n. put_there n p) (sym here) ∙ near p (λ is. differs (is ∙ sym first)) ∙ ap (λ n. over n p) here) i
+    ∷ same_arrays over put_there (suc k) arrays (λ b p above. sym (far b p (λ is. absurd (omega (arith, is, above))))) i
+over_arrays over put_there k (suc a) at v (cells ∷ arrays) there near far =
+    let moved : k + suc a ≡ suc k + a = omega arith in
+    λ i. same_cells (over k) (put_there k) 0 cells (λ p above. sym (far k p (λ is. absurd (omega (arith, is))))) i
+    ∷ over_arrays over put_there (suc k) a at v arrays (ap (λ n. put_there n at) (sym moved) ∙ there)
+    (λ p differs. ap (λ n. put_there n p) (sym moved) ∙ near p differs ∙ ap (λ n. over n p) moved)
+    (λ b p differs. far b p (λ is. differs (is ∙ moved))) i
+
+pub put_over_store : (over : ℕ → ℕ → Option ℤ) (a at : ℕ) (v : ℤ) (m : Memory) → put_cell a at v (under over m) ≡ under (with_cell a at v over) m
+put_over_store over a at v m = λ i. record m { arrays = same i } where
+  there : with_cell a at v over (0 + a) at ≡ Some v
+  there = ap (λ n. with_cell a at v over n at) (omega arith) ∙ pick_true (a == a && at == at) (Some v) (over a at) (grind arith)
+
+  near : (p : ℕ) → p ≢ at → with_cell a at v over (0 + a) p ≡ over (0 + a) p
+  near p differs = pick_false (a == (0 + a) && at == p) (Some v) (over (0 + a) p) (grind (arith, differs))
+
+  far : (b p : ℕ) → b ≢ 0 + a → with_cell a at v over b p ≡ over b p
+  far b p differs = pick_false (a == b && at == p) (Some v) (over b p) (grind (arith, differs))
+
+  same : slice_set (arrays_under over 0 m.arrays) a (slice_set (cells_of (under over m) a) at v) ≡ arrays_under (with_cell a at v over) 0 m.arrays
+  same = over_arrays over (with_cell a at v over) 0 a at v m.arrays there near far
+
+-- one cell of another overlay is put where its value isn't what the store has there
+abbrev pub put_changed : Memory → Place × ℤ → (ℕ → ℕ → Option ℤ) → ℕ → ℕ → Option ℤ
+put_changed m c over = cond (int_eq c.1 (cell_at m c.0.array c.0.index)) over (with_cell c.0.array c.0.index c.1 over)
+
+-- and cells one after another
+abbrev pub put_each : Memory → List (Place × ℤ) → (ℕ → ℕ → Option ℤ) → ℕ → ℕ → Option ℤ
+put_each m [] over = over
+put_each m (c ∷ rest) over = put_each m rest (put_changed m c over)
+
+-- what stands at a cell after one is put there
+put_here : (same : Bool) (v : ℤ) (over : ℕ → ℕ → Option ℤ) (a p : ℕ) → cond same over (with_cell a p v over) a p ≡ (if same then over a p else Some v)
+put_here true v over a p = refl
+put_here false v over a p = pick_true (a == a && p == p) (Some v) (over a p) (grind arith)
+
+-- and at another one
+put_elsewhere : (same : Bool) (b q : ℕ) (v : ℤ) (over : ℕ → ℕ → Option ℤ) (a p : ℕ) → (b == a && q == p) ≡ false
+    → cond same over (with_cell b q v over) a p ≡ over a p
+put_elsewhere true b q v over a p differs = refl
+put_elsewhere false b q v over a p differs = pick_false (b == a && q == p) (Some v) (over a p) differs
+
+-- a choice by a test, turned
+either : (b : Bool) → (b ≡ true) ⊎ (b ≡ false)
+either true = inl refl
+either false = inr refl
+
+-- the first cell's value stands behind it as it did before, by cases on the cell
+first_changed : (m : Memory) (c : Place × ℤ) (rest : List (Place × ℤ)) (over : ℕ → ℕ → Option ℤ) (a p : ℕ)
+    → over_of rest c.0.array c.0.index ≡ None
+    → changed_or (cell_at m a p) (over_of rest a p) (put_changed m c over a p)
+    ≡ changed_or (cell_at m a p) (over_of (c ∷ rest) a p) (over a p)
+first_changed m c rest over a p none = by (either (c.0.array == a && c.0.index == p)) where
+  b : ℕ
+  b = c.0.array
+
+  q : ℕ
+  q = c.0.index
+
+  v : ℤ
+  v = c.1
+
+  front : over_of (c ∷ rest) a p ≡ with_cell b q v (over_of rest) a p
+  front = λ i. sym (front_over c rest) i a p
+
+  here : b ≡ a → q ≡ p → (b == a && q == p) ≡ true → changed_or (cell_at m a p) (over_of rest a p) (put_changed m c over a p) ≡ changed_or (cell_at m a p) (over_of (c ∷ rest) a p) (over a p)
+  here array place is =
+      let nothing : over_of rest a p ≡ None = (λ i. over_of rest (sym array i) (sym place i)) ∙ none in
+      let written : over_of (c ∷ rest) a p ≡ Some v = front ∙ pick_true (b == a && q == p) (Some v) (over_of rest a p) is in
+      let put : put_changed m c over a p ≡ (if int_eq v (cell_at m a p) then over a p else Some v) =
+      subst (λ n. cond (int_eq v (cell_at m b q)) over (with_cell b q v over) n p ≡ (if int_eq v (cell_at m n p) then over n p else Some v)) array
+      (subst (λ k. cond (int_eq v (cell_at m b q)) over (with_cell b q v over) b k ≡ (if int_eq v (cell_at m b k) then over b k else Some v)) place
+      (put_here (int_eq v (cell_at m b q)) v over b q))
+      in
+      ap (λ (o : Option ℤ). changed_or (cell_at m a p) o (put_changed m c over a p)) nothing
+      ∙ put
+      ∙ ap (λ (o : Option ℤ). changed_or (cell_at m a p) o (over a p)) (sym written)
+
+  by : ((b == a && q == p) ≡ true) ⊎ ((b == a && q == p) ≡ false)
+      → changed_or (cell_at m a p) (over_of rest a p) (put_changed m c over a p) ≡ changed_or (cell_at m a p) (over_of (c ∷ rest) a p) (over a p)
+  by (inl is) = here (grind (arith, is)) (grind (arith, is)) is
+  by (inr is) =
+      ap (λ (o : Option ℤ). changed_or (cell_at m a p) (over_of rest a p) o) (put_elsewhere (int_eq v (cell_at m b q)) b q v over a p is)
+      ∙ ap (λ (o : Option ℤ). changed_or (cell_at m a p) o (over a p)) (sym (front ∙ pick_false (b == a && q == p) (Some v) (over_of rest a p) is))
+
+-- cells that are put one after another are the changes that an overlay has
+pub each_changed : (m : Memory) (es : List (Place × ℤ)) (over : ℕ → ℕ → Option ℤ) → IsStrictlySortedBy place_cmp (keys_of es)
+    → put_each m es over ≡ with_changes m (over_of es) over
+unfolding IsStrictlySortedBy
+each_changed m [] over sorted = refl
+each_changed m (c ∷ rest) over sorted =
+    each_changed m rest (put_changed m c over) sorted.1
+    ∙ (λ i a p. first_changed m c rest over a p (absent c.0 rest sorted.0) i)
+
+-- an array is as long under what is written as it is, so a cell of what a task sees is one of the store
+pub within_own : (m : Memory) (over : ℕ → ℕ → Option ℤ) (a at : ℕ) → at < length (cells_of (under over m) a) → at < length (cells_of m a)
+within_own m over a at within = subst (λ n. at < n) (as_long m over a) within
+
+-- a cell of the store that is put is one
+pub one_more : (m : Memory) (over : ℕ → ℕ → Option ℤ) (a at : ℕ) (v : ℤ) → HasCells m over → at < length (cells_of m a) → HasCells m (with_cell a at v over)
+one_more m over a at v own within b p w written = by (either (a == b && at == p)) where
+  by : ((a == b && at == p) ≡ true) ⊎ ((a == b && at == p) ≡ false) → p < length (cells_of m b)
+  by (inl is) =
+      let array : a ≡ b = grind (arith, is) in
+      let place : at ≡ p = grind (arith, is) in
+      subst (λ n. p < length (cells_of m n)) array (subst (λ n. n < length (cells_of m a)) place within)
+  by (inr is) = own b p w (sym (pick_false (a == b && at == p) (Some v) (over b p) is) ∙ written)

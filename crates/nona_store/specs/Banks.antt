@@ -1,16 +1,18 @@
 -- What a bank allows.
 use Rattle.std.specs.Prelude.{◌≡◌, ℕ, ◌≤◌, Bool, true, false, None, Some}
 use Rattle.std.specs.declared.option.Option.{Option}
+use Rattle.nona_tree.specs.Memory.{Memory}
 use Rattle.nona_tree.specs.Deeds.{Deed, reads, sets, folds, loads, stores, joins, prints}
 
 -- which cells of an array may be loaded and which saved, how many scalars may stand where there is a bound, whether numbers
--- may be printed, and whether memory never runs out
+-- may be printed, whether memory never runs out, and the store beside which a bank writes, where it does so
 pub record Limits : Type 0 where
   pub loads : ℕ → ℕ → Bool
   pub saves : ℕ → ℕ → Bool
   pub room : Option ℕ
   pub prints : Bool
   pub firm : Bool
+  pub base : Option Memory
 
 -- so many scalars may stand
 abbrev pub HasRoom : Option ℕ → ℕ → Type 0
@@ -29,4 +31,4 @@ Allows l (folds f id) = Unit {0}
 
 -- what a whole store allows: every cell, any number of scalars, and prints; its memory may run out
 abbrev pub all_allowed : Limits
-all_allowed = record { loads = λ array place. true; saves = λ array place. true; room = None; prints = true; firm = false }
+all_allowed = record { loads = λ array place. true; saves = λ array place. true; room = None; prints = true; firm = false; base = None }

@@ -2,3 +2,4 @@ pub mod Arrays
 pub mod Input
 pub mod Banks
 pub mod Overlays
+pub mod Shares

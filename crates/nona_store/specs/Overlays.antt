@@ -5,7 +5,8 @@ use Rattle.std.specs.Map.{lookup}
 use Rattle.std.specs.declared.cmp.Ordering.{Ordering}
 use Rattle.std.specs.declared.option.Option.{Option}
 use Rattle.std.specs.Option.{unwrap_or}
-use Rattle.nona_tree.specs.Memory.{Memory, cells_of}
+use Rattle.std.specs.Ordering.{int_eq}
+use Rattle.nona_tree.specs.Memory.{Memory, cells_of, cell_at}
 use Rattle.nona_tree.specs.Numbers.{IsI64}
 use Rattle.nona_store.specs.declared.overlay.Place.{Place}
 use Rattle.nona_store.specs.contracts.overlay.PlaceOrd.TheImpl as place_ord
@@ -14,7 +15,7 @@ use Rattle.nona_store.specs.contracts.overlay.PlaceOrd.TheImpl as place_ord
 abbrev pub place_cmp : Place → Place → Ordering
 place_cmp = (place_ord.ghosts).cmp
 
--- the value that is written on each cell, where one is
+-- the value that is written on each cell, where one is, in a list of cells with their values
 abbrev pub over_of : List (Place × ℤ) → ℕ → ℕ → Option ℤ
 over_of written array index = lookup (is_at (place_cmp (record { array = array; index = index }))) written
 
@@ -23,8 +24,8 @@ abbrev pub IsOverlay : BTreeMap Place ℤ → Type 0
 IsOverlay cells = All IsI64 (values cells)
 
 -- no cell is written
-abbrev pub nothing_over : ℕ → ℕ → Option ℤ
-nothing_over array place = None
+abbrev pub unwritten : List (Place × ℤ)
+unwritten = []
 
 -- one cell has this value, and the others what they have
 abbrev pub with_cell : ℕ → ℕ → ℤ → (ℕ → ℕ → Option ℤ) → ℕ → ℕ → Option ℤ
@@ -47,3 +48,12 @@ under over m = record m { arrays = arrays_under over 0 m.arrays }
 -- each cell that is written is one of the store
 abbrev pub HasCells : Memory → (ℕ → ℕ → Option ℤ) → Type 0
 HasCells m over = (array place : ℕ) (v : ℤ) → over array place ≡ Some v → place < length (cells_of m array)
+
+-- the value that is written where it isn't what the cell was, and otherwise this one
+abbrev pub changed_or : ℤ → Option ℤ → Option ℤ → Option ℤ
+changed_or was None other = other
+changed_or was (Some v) other = if int_eq v was then other else Some v
+
+-- the cells of a store whose written values are others than the store's have those, and the rest what they have
+abbrev pub with_changes : Memory → (ℕ → ℕ → Option ℤ) → (ℕ → ℕ → Option ℤ) → ℕ → ℕ → Option ℤ
+with_changes m written over array place = changed_or (cell_at m array place) (written array place) (over array place)

@@ -12,6 +12,7 @@ mod ended;
 mod input;
 mod laws;
 mod overlay;
+mod share;
 mod store;
 
 pub use banks::Bank;
@@ -20,4 +21,5 @@ pub use ended::Ended;
 pub use input::{InputFault, NUMBERS, read_numbers};
 pub use laws::overlays_cover;
 pub use overlay::Overlay;
+pub use share::{Share, ShareBank};
 pub use store::Store;

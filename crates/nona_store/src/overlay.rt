@@ -1,5 +1,5 @@
 ghost use Rattle.std.specs.Prelude.{◌≡◌, OnOk, OnErr};
-ghost use Rattle.nona_store.specs.Overlays.{HasCells, nothing_over, over_of, under, with_cell};
+ghost use Rattle.nona_store.specs.Overlays.{HasCells, over_of, under, unwritten, with_cell, with_changes};
 
 use crate::store::Store;
 use std::alloc::{AllocError, Global};
@@ -14,7 +14,7 @@ pub struct Place {
 }
 
 /// Values of cells that are written beside a store and not yet in it. Contracts see a finite map: for an array and a place the
-/// value that was last put there, if any was. Each value has 64 bits.
+/// value that was last put there, if any was (`over_of`). Each value has 64 bits.
 #[derive(Drop)]
 pub struct Overlay {
     cells: BTreeMap<Place, i64>,
@@ -35,7 +35,7 @@ impl Model for Overlay {
 impl Overlay {
     /// An overlay without cells. Takes no memory.
     pub fn begin(alloc: Global) -> Overlay
-        ensures { over_of result ≡ nothing_over }
+        ensures { result ≡ unwritten }
     {
         Overlay {
             cells: BTreeMap::new(alloc),
@@ -58,6 +58,21 @@ impl Overlay {
         ensures { result ≡ over_of self.now array index }
     {
         self.cells.get(&Place { array, index }).copied()
+    }
+
+    /// Puts each value of another overlay that isn't what the store has there. All its cells are ones of the store. Takes a time
+    /// in proportion to the number of its cells and logarithmic in the number of this one's. Where memory runs out, some of them
+    /// may have been put.
+    pub fn put_changes(&mut self, other: &Overlay, store: &Store) -> Result<(), AllocError>
+        requires { HasCells store.now (over_of other.now) }
+        ensures { OnOk result (over_of self.new ≡ with_changes store.now (over_of other.now) (over_of self.old)) }
+    {
+        for (place, value) in other.cells.iter() {
+            if *value != store.cell(place.array, place.index) {
+                self.put(place.array, place.index, *value)?;
+            }
+        }
+        Ok(())
     }
 }
 

@@ -134,6 +134,13 @@ impl Store {
         self.scalars.len()
     }
 
+    /// The visible scalars, in order of declaration.
+    pub fn scalars(&self) -> &[i64]
+        ensures { result.now ≡ self.now.scalars }
+    {
+        self.scalars.as_slice()
+    }
+
     /// The scalar with this id, which is there.
     pub fn scalar(&self, id: u32) -> i64
         requires { id < length self.now.scalars }

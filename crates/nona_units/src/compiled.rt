@@ -83,7 +83,7 @@ impl Units {
     }
 
     /// The code of the statement with this number, from 0.
-    pub(crate) fn code(&self, at: usize) -> &Sound
+    pub fn code(&self, at: usize) -> &Sound
         requires { at < length self.now.body }
         ensures { IsUnitAt result.now self.now at }
     {

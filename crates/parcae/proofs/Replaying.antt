@@ -1,17 +1,26 @@
 -- How the end of a replay follows from that of its drive.
-use Rattle.std.proofs.Common.{◌≡◌, ◌≤◌, ℕ, ℤ, List, [], ◌∷◌, length, ap, sym, refl, ◌∙◌, subst, Some, inl, inr, zero, suc, Bool, IsTrue}
+use Rattle.std.proofs.Common.{◌≡◌, ◌≤◌, ℕ, ℤ, List, [], ◌∷◌, length, ap, sym, refl, ◌∙◌, subst, None, Some, ◌⊎◌, inl, inr, zero, suc, Bool, IsTrue}
 use Rattle.std.specs.Prelude.{map, slice_get, Result, Ok, Err, IfOk}
 use Rattle.std.specs.declared.option.Option.{Option}
 use Rattle.fate_io.specs.Sending.{Sent}
 use Rattle.nona_tree.specs.declared.trees.Program.{Program}
 use Rattle.nona_tree.specs.Memory.{Memory}
 use Rattle.nona_tree.specs.Run.{Ran, start_of, meaning_of}
-use Rattle.nona_gen.specs.OfSeen.{planned_image}
+use Rattle.nona_tree.specs.declared.plans.Plan.{Plan}
+use Rattle.nona_tree.specs.declared.trees.Loop.{Loop}
+use Rattle.nona_tree.specs.Entries.{regions_all}
+use Rattle.nona_plans.specs.Plans.{IsLawfulPlan, plan_of}
+use Rattle.nona_stages.specs.Seen.{is_parallel}
+use Rattle.nona_gen.specs.OfSeen.{by_plan, planned_image}
+use Rattle.morta_task.specs.declared.schemes.Scheme.{Scheme}
+use Rattle.morta_task.specs.declared.schemes.Scheme.TheVariants.{Seq, Any}
+use Rattle.morta_task.specs.RegionView.{RegionView}
 use Rattle.morta_task.specs.Entries.{EntryView}
 use Rattle.morta_task.specs.ImageView.{ImageView}
 use Rattle.morta_task.specs.LogView.{LogView}
 use Rattle.weave.specs.declared.script.Command.{Command as Order}
-use Rattle.weave.specs.Replay.{IsScriptReplay}
+use Rattle.weave.specs.Replay.{IsScriptReplay, UsesScheme}
+use Rattle.weave.specs.Serving.{RunsIn}
 use Rattle.weave.specs.WeaveView.{WeaveView}
 use Rattle.weave.specs.WeavePromise.{weave_promise}
 use Rattle.morta_text.specs.Texts.{number_lines}
@@ -27,15 +36,39 @@ use Rattle.parcae.specs.declared.status.Status.TheVariants as status
 use Rattle.parcae.specs.Texts.{full_line}
 use Rattle.parcae.specs.Told.{Told, logged}
 use Rattle.parcae.specs.Ends.{within, Ends, write_failed, no_memory, SendsReport}
-use Rattle.parcae.specs.Files.{AskForSeq}
+use Rattle.parcae.specs.Files.{AskForSeqOrAny}
 use Rattle.parcae.specs.Due.{entries_in, DueOfDrive, drive_full, drive_broken}
 use Rattle.parcae.proofs.Ending.{ends_behind}
 
--- a replay of a script that asks for one thread alone serves all regions
-pub serves_all : (w : WeaveView) (image : ImageView) → AskForSeq w.script → ServesAll weave_promise w image
-serves_all w image alone region code s e (inl is) = is
-serves_all w image alone region code s e (inr (inl is, offered)) = is
-serves_all w image alone region code s e (inr (inr used, offered)) = alone s used
+-- what an option has, or the other one
+abbrev or_else : RegionView → Option RegionView → RegionView
+or_else other None = other
+or_else other (Some code) = code
+
+-- a region of loops with their own plans has that of its loop
+planned_there : (ls : List Loop) (k : ℕ) (code : RegionView) → slice_get (map by_plan ls) k ≡ Some code → code.plan ≡ plan_of code.looped
+planned_there [] k code there = cc
+planned_there (l ∷ ls) zero code there =
+    let is : by_plan l ≡ code = ap (or_else code) there in subst (λ (c : RegionView). c.plan ≡ plan_of c.looped) is refl
+planned_there (l ∷ ls) (suc k) code there = planned_there ls k code there
+
+-- a version that a script may ask for is served, where the plan is lawful
+runs_in : (l : Loop) (plan : Plan) (s : Scheme) → IsLawfulPlan l plan → (s ≡ Seq) ⊎ (s ≡ Any) → RunsIn l plan s
+runs_in l plan s lawful (inl is) = subst (RunsIn l plan) (sym is) tt
+runs_in l plan s lawful (inr is) = subst (RunsIn l plan) (sym is) lawful
+
+asked_for : (script : List Order) (s : Scheme) (offered : Type 0) → AskForSeqOrAny script → (s ≡ Seq) ⊎ (((s ≡ Seq) ⊎ UsesScheme script s) × offered)
+    → (s ≡ Seq) ⊎ (s ≡ Any)
+asked_for script s offered versions (inl is) = inl is
+asked_for script s offered versions (inr (inl is, there)) = inl is
+asked_for script s offered versions (inr (inr used, there)) = versions s used
+
+-- a replay of a script that asks for these versions alone serves all regions with lawful plans
+pub serves_all : (w : WeaveView) (p : Program) (image : ImageView) → image ≡ planned_image p → AskForSeqOrAny w.script
+    → ((l : Loop) → IsLawfulPlan l (plan_of l)) → ServesAll weave_promise w image
+serves_all w p image is versions lawful region code s there asked =
+    let planned = planned_there (regions_all is_parallel p.body) region code (ap (λ (i : ImageView). slice_get i.regions region) (sym is) ∙ there) in
+    runs_in code.looped code.plan s (subst (IsLawfulPlan code.looped) (sym planned) (lawful code.looped)) (asked_for w.script s _ versions asked)
 
 -- a drive whose log stands was broken off by the sink
 pub ends_write : (tree : Program) (es : List EntryView) (ran : Ran) (stands : LogView → Type 0) (memory asked : Bool) (log : LogView) (sent : Sent)

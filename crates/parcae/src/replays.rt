@@ -5,7 +5,7 @@ ghost use Rattle.nona_store.specs.Input.{number_bound};
 ghost use Rattle.weave.specs.Following.{AreCommands};
 ghost use Rattle.parcae.specs.Told.{told_of};
 ghost use Rattle.parcae.specs.Ends.{Ends};
-ghost use Rattle.parcae.specs.Files.{AskForSeq};
+ghost use Rattle.parcae.specs.Files.{AskForSeqOrAny};
 ghost use Rattle.parcae.specs.Due.{DueOfReplay};
 
 use crate::report::{Report, bare, logged, once_sent};
@@ -15,6 +15,7 @@ use fate_io::{Sink, send};
 use morta_exec::{Beginning, DriveFault, drive};
 use morta_task::Log;
 use nona_gen::compile;
+use nona_plans::plan_is_lawful;
 use nona_store::Store;
 use nona_tree::{Checked, checked_is_scoped};
 use std::alloc::Global;
@@ -36,7 +37,7 @@ pub fn replay_script<K: Sink>(
     requires few { length input.items ≤ number_bound }
     requires numbers { All IsI64 input.items }
     requires valid { AreCommands script.commands.items }
-    requires alone { AskForSeq script.commands.items }
+    requires versions { AskForSeqOrAny script.commands.items }
     requires some_turns { 1 ≤ asked.turns }
     requires few_turns { asked.turns ≤ 10 ^ 12 }
     ensures { Ends (DueOfReplay program.now input.items script.commands.items asked.turns asked.memory asked.log)
@@ -44,6 +45,7 @@ pub fn replay_script<K: Sink>(
 {
     checked_is_scoped();
     declared_stays();
+    plan_is_lawful();
     let tree = program.program();
     let Ok(image) = compile(alloc, program) else {
         return bare(alloc, Status::NoMemory);

@@ -13,6 +13,7 @@ use Rattle.morta_task.specs.Running.{chosen, limit_of}
 use Rattle.weave.specs.declared.script.Command.{Command}
 use Rattle.net_flow.specs.Machines.{Machine, is_over, round, RunsOut, at_end, one_round}
 use Rattle.weave.specs.SeqNet.{seq_machine, ran_of}
+use Rattle.weave.specs.Shared.{shared_machine, shared_ran}
 use Rattle.weave.specs.Replay.{behind_use, left_behind, IsReplayedIn, IsReplayed, IsDriven, AreDriven, IsReplay}
 use Rattle.weave.proofs.OneMore.{Grown, grown}
 
@@ -34,7 +35,8 @@ replayed_in_once : (s : Scheme) (workers capacity : ℕ) (e : EntryView) (from :
     → IsReplayedIn s workers capacity e from limit commands one → IsReplayedIn s workers capacity e from limit commands other → one ≡ other
 replayed_in_once Seq workers capacity e from limit commands one other (end, out, is) (end', out', is') =
     is ∙ ap ran_of (runs_out_once seq_machine _ end end' out out') ∙ sym is'
-replayed_in_once Any workers capacity e from limit commands one other h k = absurd h
+replayed_in_once Any workers capacity e from limit commands one other (end, out, is) (end', out', is') =
+    is ∙ ap (shared_ran e (before e from)) (runs_out_once (shared_machine e (before e from) workers) _ end end' out out') ∙ sym is'
 replayed_in_once Pipe workers capacity e from limit commands one other h k = absurd h
 
 -- what an option has, or the other one

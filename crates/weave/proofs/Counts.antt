@@ -56,3 +56,9 @@ counted_moved net going ended is = counts_at net.place net net.moves going ended
 -- before the first step there is none
 pub counted_begun : (e : EntryView) (before limit : ℕ) (m : Memory) → HasMoved (begun_net e before limit m)
 counted_begun e before limit m = omega arith
+
+-- a task that has finished has moved as often as the end of its last iteration says
+pub finished_moves : (p : Stand) (end : Outcome) (moves granted units : ℕ) → is_finished p ≡ true → HasMovedAt p end moves granted units → HasEndedAfter end moves granted units
+finished_moves Claims end moves granted units over here = cc
+finished_moves (Unit_of s rest) end moves granted units over here = cc
+finished_moves Finished end moves granted units over here = here

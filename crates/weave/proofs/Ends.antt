@@ -15,14 +15,15 @@ use Rattle.weave.specs.declared.script.Command.{Command}
 use Rattle.net_flow.specs.Machines.{RunsOut}
 use Rattle.weave.specs.Following.{follow}
 use Rattle.weave.specs.SeqNet.{SeqNet, Stand, Claims, Unit_of, Finished, is_finished, seq_machine, begun_net, ran_of}
-use Rattle.weave.specs.SeqState.{StandsAt, HasMovedAt, HasEndedAfter, StopsWithin}
+use Rattle.weave.specs.SeqState.{StandsAt, HasEndedAfter, StopsWithin}
 use Rattle.weave.proofs.SeqLaws.{done_before}
-use Rattle.weave.proofs.Counts.{one_more}
+use Rattle.weave.proofs.Counts.{one_more, finished_moves}
 use Rattle.weave.proofs.Sound.{SameInterval, sound_begun}
-use Rattle.weave.proofs.RunsOut.{Sound, sound_kept, kept_follow, kept_out}
+use Rattle.weave.proofs.Keeping.{kept_follow, kept_out}
+use Rattle.weave.proofs.RunsOut.{Sound, sound_kept}
 
 -- how far a number lies above another one that it was made from
-above : (low z : ℤ) (k : ℕ) → z ≡ low +ℤ pos k → int_gap low z ≡ k
+pub above : (low z : ℤ) (k : ℕ) → z ≡ low +ℤ pos k → int_gap low z ≡ k
 above (pos a) (pos b) k h = omega (arith, ints, h)
 above (pos a) (negsuc b) k h = absurd (omega (arith, ints, h))
 above (negsuc a) (pos b) k h = omega (arith, ints, h)
@@ -62,7 +63,8 @@ indices_fit e from limit k within room fits_from fits_last h =
     let on : last e ≡ from +ℤ pos n = omega (arith, ints, within.0, last_is e, within.1) in
     fits_between from (last e) k n fits_from fits_last on (omega (arith, h, room_within e from limit within room))
 
-cut_by : (b : Bool) (e : EntryView) (c : Config) (a limit granted : ℕ) → nat_lt granted limit ≡ b → granted ≤ limit → (state_after e (a + granted)).end ≡ outcome.Done
+-- a cut where the last iteration is done
+pub cut_by : (b : Bool) (e : EntryView) (c : Config) (a limit granted : ℕ) → nat_lt granted limit ≡ b → granted ≤ limit → (state_after e (a + granted)).end ≡ outcome.Done
     → CutSays e c a limit (a + granted) (if b then Paused else Limit)
 cut_by true e c a limit granted is within finished = (grind arith, finished)
 cut_by false e c a limit granted is within finished = (grind arith, finished)
@@ -79,11 +81,6 @@ stands_finished : (p : Stand) (net : SeqNet) → is_finished p ≡ true → Stan
 stands_finished Claims net over here = cc
 stands_finished (Unit_of s rest) net over here = cc
 stands_finished Finished net over here = here
-
-finished_moves : (p : Stand) (end : Outcome) (moves granted units : ℕ) → is_finished p ≡ true → HasMovedAt p end moves granted units → HasEndedAfter end moves granted units
-finished_moves Claims end moves granted units over here = cc
-finished_moves (Unit_of s rest) end moves granted units over here = cc
-finished_moves Finished end moves granted units over here = here
 
 stopped_moved : (moves granted units : ℕ) → 1 ≤ granted → StopsWithin moves granted units → 1 ≤ moves
 stopped_moved moves granted units some (left, behind, is) =
@@ -105,7 +102,7 @@ pub sound_end : (e : EntryView) (from : ℤ) (limit : ℕ) (m : Memory) (command
 sound_end e from limit m commands end entered ready out =
     let first = begun_net e (before e from) limit m in
     let begun : Sound first first = (entered, sound_begun e (before e from) limit m ready, record { entry = refl; before = refl; limit = refl }) in
-    kept_out (Sound first) (sound_kept first).step _ end out (kept_follow (Sound first) (sound_kept first) commands first begun)
+    kept_out seq_machine (Sound first) (sound_kept first).step _ end out (kept_follow seq_machine (Sound first) (sound_kept first) commands first begun)
 
 -- the index behind the last iteration
 to_is : (e : EntryView) (from : ℤ) (limit : ℕ) (m : Memory) (end : SeqNet) → SameInterval (begun_net e (before e from) limit m) end

@@ -10,9 +10,10 @@ use Rattle.weave.specs.declared.script.Command.{Command}
 use Rattle.net_flow.specs.Machines.{RunsOut}
 use Rattle.weave.specs.Following.{follow}
 use Rattle.weave.specs.SeqNet.{SeqNet, Stand, Claims, Unit_of, Finished, at_units, is_granted, behind_unit, step_at, is_finished, seq_machine, begun_net}
-use Rattle.weave.specs.SeqState.{HasEndedAfter, HasMovedAt, HasMoved}
-use Rattle.weave.proofs.Counts.{counted_moved, counted_begun}
-use Rattle.weave.proofs.RunsOut.{Kept, KeptOnStep, kept_follow, kept_out, out_is_over}
+use Rattle.weave.specs.SeqState.{HasEndedAfter, HasMoved}
+use Rattle.weave.proofs.Counts.{counted_moved, counted_begun, finished_moves}
+use Rattle.weave.proofs.Keeping.{Kept, KeptOnStep, kept_follow, kept_out}
+use Rattle.weave.proofs.RunsOut.{out_is_finished}
 
 -- what a step that changes no claim keeps of a net of this interval
 record Going (e : EntryView) (limit : ℕ) (paused : Bool) (net : SeqNet) : Type 0 where
@@ -100,11 +101,11 @@ kind_at (Unit_of s rest) e limit paused net going o =
     let r = run s net.entry.turns net.store in kind_unit r.end e limit paused rest r.store net o
 kind_at Finished e limit paused net going o = cc
 
-kind_step : (e : EntryView) (limit : ℕ) (paused : Bool) → KeptOnStep (Kind e limit paused)
-kind_step e limit paused net going x =
+kind_step : (e : EntryView) (limit : ℕ) (paused : Bool) → KeptOnStep seq_machine (Kind e limit paused)
+kind_step e limit paused net task there going x =
     let o : Going e limit paused net = record { entry = x.entry; limit_is = x.limit_is; paused_is = x.paused_is; within = x.within; finished = x.going going } in
     let y = kind_at net.place e limit paused net going o in
-    record { entry = y.entry; limit_is = y.limit_is; paused_is = y.paused_is; within = y.within; going = y.going; all = y.all }
+    (record { entry = y.entry; limit_is = y.limit_is; paused_is = y.paused_is; within = y.within; going = y.going; all = y.all }, refl)
 
 kind_begun : (e : EntryView) (before limit : ℕ) (m : Memory) → Kind e limit false (begun_net e before limit m)
 kind_begun e before limit m = record {
@@ -121,8 +122,8 @@ pub grants_all : (e : EntryView) (before limit : ℕ) (m : Memory) (end : SeqNet
     → end.granted ≡ limit
 grants_all e before limit m end out ended =
     let first = begun_net e before limit m in
-    let x = kept_out (Kind e limit false) (kind_step e limit false) first end out (kind_begun e before limit m) in
-    x.all refl ended (out_is_over first end out) ∙ x.limit_is
+    let x = kept_out seq_machine (Kind e limit false) (kind_step e limit false) first end out (kind_begun e before limit m) in
+    x.all refl ended (out_is_finished first end out) ∙ x.limit_is
 
 -- a net of this entry that has moved as often as its iterations ask, and whose iterations are done while it goes on
 record Counted (e : EntryView) (net : SeqNet) : Type 0 where
@@ -131,14 +132,17 @@ record Counted (e : EntryView) (net : SeqNet) : Type 0 where
   kind : Kind e limit paused net
   moves : HasMoved net
 
-counted_kept : (e : EntryView) → Kept (Counted e)
+counted_kept : (e : EntryView) → Kept seq_machine (Counted e)
 counted_kept e = record {
-  step = λ net going x. record {
-    paused = x.paused;
-    limit = x.limit;
-    kind = kind_step e x.limit x.paused net going x.kind;
-    moves = counted_moved net going (x.kind.going going) x.moves;
-  };
+  step = λ net task there going x. (
+    record {
+      paused = x.paused;
+      limit = x.limit;
+      kind = (kind_step e x.limit x.paused net task there going x.kind).0;
+      moves = counted_moved net going (x.kind.going going) x.moves;
+    },
+    refl,
+  );
   pause = λ net x. record {
     paused = true;
     limit = x.limit;
@@ -156,17 +160,12 @@ counted_kept e = record {
 
 counted_after : (e : EntryView) (before limit : ℕ) (m : Memory) (commands : List Command) → Counted e (follow seq_machine commands (begun_net e before limit m)).net
 counted_after e before limit m commands =
-    kept_follow (Counted e) (counted_kept e) commands (begun_net e before limit m)
+    kept_follow seq_machine (Counted e) (counted_kept e) commands (begun_net e before limit m)
     (record { paused = false; limit = limit; kind = kind_begun e before limit m; moves = counted_begun e before limit m })
 
 -- at each moment the moves are those that the iterations ask
 pub moves_at_each : (e : EntryView) (before limit : ℕ) (m : Memory) (commands : List Command) → HasMoved (follow seq_machine commands (begun_net e before limit m)).net
 moves_at_each e before limit m commands = (counted_after e before limit m commands).moves
-
-finished_moves : (p : Stand) (end : Outcome) (moves granted units : ℕ) → is_finished p ≡ true → HasMovedAt p end moves granted units → HasEndedAfter end moves granted units
-finished_moves Claims end moves granted units over here = cc
-finished_moves (Unit_of s rest) end moves granted units over here = cc
-finished_moves Finished end moves granted units over here = here
 
 -- and once it has run out
 pub moves_at_end : (e : EntryView) (before limit : ℕ) (m : Memory) (commands : List Command) (end : SeqNet)
@@ -174,6 +173,6 @@ pub moves_at_end : (e : EntryView) (before limit : ℕ) (m : Memory) (commands :
     → HasEndedAfter end.end end.moves end.granted (length e.looped.body)
 moves_at_end e before limit m commands end out =
     let net = (follow seq_machine commands (begun_net e before limit m)).net in
-    let x = kept_out (Counted e) (counted_kept e).step net end out (counted_after e before limit m commands) in
+    let x = kept_out seq_machine (Counted e) (counted_kept e).step net end out (counted_after e before limit m commands) in
     subst (λ (y : EntryView). HasEndedAfter end.end end.moves end.granted (length y.looped.body)) x.kind.entry
-    (finished_moves end.place end.end end.moves end.granted (length end.entry.looped.body) (out_is_over net end out) x.moves)
+    (finished_moves end.place end.end end.moves end.granted (length end.entry.looped.body) (out_is_finished net end out) x.moves)

@@ -7,7 +7,7 @@ use Rattle.nona_tree.specs.Memory.{Memory, cut_to}
 use Rattle.nona_tree.specs.Run.{Ran as Run, run}
 use Rattle.nona_units.specs.Units.{FirstReaches}
 use Rattle.nona_units.proofs.Statements.{begins_with}
-use Rattle.weave.specs.Net.{place_before, store_before}
+use Rattle.weave.specs.OneTask.{place_before, store_before}
 use Rattle.weave.specs.SeqNet.{SeqNet, Stand, Finished, left_iteration, at_units, behind_unit, unit_done, step_at}
 
 -- the place and the store before units

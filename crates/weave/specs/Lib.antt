@@ -4,7 +4,12 @@ pub mod Replay
 pub mod SeqState
 pub mod Obeys
 pub mod Asking
-pub mod Net
+pub mod OneTask
+pub mod Shared
+pub mod NetView
+pub mod SharedTasks
+pub mod Nets
+pub mod Serving
 pub mod WeaveView
 pub mod WeaveInside
 pub mod WeavePromise

@@ -1,6 +1,7 @@
 -- The replay of a script: what its commands do to each interval, and which requests it makes.
 use Rattle.std.specs.Prelude.{◌≡◌, ℕ, ◌-◌, ℤ, List, [], ◌∷◌, None, Some, Contains, slice_get}
 use Rattle.std.specs.declared.option.Option.{Option}
+use Rattle.nona_tree.specs.Memory.{Memory}
 use Rattle.morta_task.specs.declared.schemes.Scheme.{Scheme}
 use Rattle.morta_task.specs.declared.schemes.Scheme.TheVariants.{Seq, Any, Pipe}
 use Rattle.morta_task.specs.declared.schemes.Config.{Config}
@@ -14,31 +15,40 @@ use Rattle.morta_task.specs.Running.{seq_one, limit_of}
 use Rattle.weave.specs.declared.script.Command.{Command}
 use Rattle.weave.specs.declared.script.Command.TheVariants.{Use, Step, Pause}
 use Rattle.net_flow.specs.Machines.{RunsOut}
+use Rattle.net_flow.specs.Net.{Net}
 use Rattle.weave.specs.Following.{Followed, follow}
 use Rattle.weave.specs.SeqNet.{SeqNet, begun_net, seq_machine, ran_of}
+use Rattle.weave.specs.Shared.{shared_machine, begun_shared, shared_ran}
 
 -- the machine of an interval under `seq` that begins at an index, once it has followed the commands
 abbrev pub followed_in_sequence : EntryView → ℤ → ℕ → List Command → Followed SeqNet
 followed_in_sequence e from limit commands =
     follow seq_machine commands (begun_net e (before e from) limit (state_after e (before e from)).store)
 
--- the same of an interval in this version, with so many workers, whose links hold so many messages
+-- the same of the machine of so many tasks that share the iterations
+abbrev pub followed_by_tasks : EntryView → ℤ → ℕ → ℕ → List Command → Followed (Net Memory (Unit {0}))
+followed_by_tasks e from limit workers commands =
+    follow (shared_machine e (before e from) workers) commands (begun_shared e (before e from) limit workers)
+
+-- what an interval did in this version, with so many workers, whose links hold so many messages
 abbrev pub IsReplayedIn : Scheme → ℕ → ℕ → EntryView → ℤ → ℕ → List Command → Ran → Type 0
 IsReplayedIn Seq workers capacity e from limit commands done =
     (end : SeqNet) × RunsOut seq_machine (followed_in_sequence e from limit commands).net end × (done ≡ ran_of end)
-IsReplayedIn Any workers capacity e from limit commands done = ⊥
+IsReplayedIn Any workers capacity e from limit commands done =
+    (end : Net Memory (Unit {0})) × RunsOut (shared_machine e (before e from) workers) (followed_by_tasks e from limit workers commands).net end
+    × (done ≡ shared_ran e (before e from) end)
 IsReplayedIn Pipe workers capacity e from limit commands done = ⊥
 
 -- What an interval did that ran in this configuration, where a link holds so many messages, from an index up to a limit, with
 -- these commands left at its start: the commands are followed, and then the tasks step round robin until all have finished.
--- A replay runs `seq` alone so far: no interval in another version is one of a replay.
+-- A replay runs `seq` and `any` so far: no interval in another version is one of a replay.
 abbrev pub IsReplayed : ℕ → Config → EntryView → ℤ → ℕ → List Command → Ran → Type 0
 IsReplayed capacity config = IsReplayedIn config.scheme config.workers capacity
 
 -- the commands that an interval in this version leaves
 abbrev pub commands_left_in : Scheme → ℕ → ℕ → EntryView → ℤ → ℕ → List Command → List Command
 commands_left_in Seq workers capacity e from limit commands = (followed_in_sequence e from limit commands).left
-commands_left_in Any workers capacity e from limit commands = commands
+commands_left_in Any workers capacity e from limit commands = (followed_by_tasks e from limit workers commands).left
 commands_left_in Pipe workers capacity e from limit commands = commands
 
 -- the commands that an interval in this configuration leaves

@@ -5,6 +5,7 @@ use Rattle.morta_task.specs.Entries.{EntryView}
 use Rattle.morta_task.specs.LogView.{LogView, IsAtHand, with_interval}
 use Rattle.morta_task.specs.Promise.{Promise}
 use Rattle.weave.specs.Replay.{behind_use, left_at, current_at, IsReplayOf, script_asks, UsesScheme}
+use Rattle.weave.specs.Serving.{RunsIn}
 use Rattle.weave.specs.WeaveView.{WeaveView}
 
 -- the log is what the replay of the script makes, and these commands are left behind it, with this configuration
@@ -25,11 +26,11 @@ pub data HasAsked (w : WeaveView) (log : LogView) (e : EntryView) : Type 0 where
   by_itself : IsAtHand log e → HasTaken w log → HasAsked w log e
   by_anyone : IsAtHand log e → w.script ≡ [] → StandsFor w log → HasAsked w log e
 
--- It runs `seq` alone, and asks for what its script says; it asks for what it runs itself, but where its script is empty it
--- runs what anyone asks for. It need not be told: with an interval it stands for the log with it.
+-- It runs `seq`, and `any` where the plan is lawful, and asks for what its script says; it asks for what it runs itself, but where
+-- its script is empty it runs what anyone asks for. It need not be told: with an interval it stands for the log with it.
 abbrev pub weave_promise : Promise WeaveView
 weave_promise = record {
-  serves = λ w l p s. s ≡ Seq;
+  serves = λ w l p s. RunsIn l p s;
   ticks_to_come = λ w. None;
   meets = λ w e c from done. Unit {0};
   names = λ w s. (s ≡ Seq) ⊎ UsesScheme w.script s;

@@ -1,10 +1,11 @@
-//! The commands of a script, done to the machine of an interval under `seq`.
+//! The commands of a script, done to the machine of an interval.
 
 ghost use Rattle.std.specs.Prelude.{◌≡◌, List, drop, false, IfOk, OnOk};
+ghost use Rattle.net_flow.specs.Machines.{is_over};
 ghost use Rattle.weave.specs.declared.script.Command.{Command};
 ghost use Rattle.weave.specs.Following.{follow as followed};
-ghost use Rattle.weave.specs.SeqNet.{seq_machine, is_finished};
-ghost use Rattle.weave.specs.Net.{net_of, IsNet};
+ghost use Rattle.weave.specs.NetView.{machine};
+ghost use Rattle.weave.specs.Nets.{IsNet, view_of};
 ghost use Rattle.weave.specs.Obeys.{Obeys};
 
 use crate::net::Net;
@@ -15,8 +16,8 @@ use std::alloc::AllocError;
 /// machine and stays.
 fn obey(command: Command, net: &mut Net<'_>) -> Result<bool, AllocError>
     requires net { IsNet net.old }
-    requires goes_on { is_finished (net_of net.old).place ≡ false }
-    ensures obeys { IfOk result (λ on. (rest : List Command) → Obeys command rest (net_of net.old) (net_of net.new) on) }
+    requires goes_on { is_over machine (view_of net.old) ≡ false }
+    ensures obeys { IfOk result (λ on. (rest : List Command) → Obeys command rest (view_of net.old) (view_of net.new) on) }
     ensures sound { OnOk result (IsNet net.new) }
 {
     match command {
@@ -28,10 +29,11 @@ fn obey(command: Command, net: &mut Net<'_>) -> Result<bool, AllocError>
             Ok(false)
         }
         Command::Step { task, moves } => {
-            if task > 0 {
+            let number = task as usize;
+            if number >= net.tasks() {
                 return Ok(true);
             }
-            net.step_times(moves)?;
+            net.step_times(number, moves)?;
             Ok(true)
         }
         Command::Pause => {
@@ -41,17 +43,17 @@ fn obey(command: Command, net: &mut Net<'_>) -> Result<bool, AllocError>
     }
 }
 
-/// Does the next commands, from the one with this number on, while the task is unfinished, up to a `use`, which pauses the
+/// Does the next commands, from the one with this number on, while tasks are unfinished, up to a `use`, which pauses the
 /// machine and stays. The answer is the number of the first command that is left. An error comes where memory runs out,
 /// and the machine is then spent.
 pub fn follow(commands: &[Command], first: usize, net: &mut Net<'_>) -> Result<usize, AllocError>
     requires { IsNet net.old }
-    ensures follows { IfOk result (λ at. followed seq_machine (drop first commands.now) (net_of net.old)
-        ≡ record { net = net_of net.new; left = drop at commands.now }) }
+    ensures follows { IfOk result (λ at. followed machine (drop first commands.now) (view_of net.old)
+        ≡ record { net = view_of net.new; left = drop at commands.now }) }
     ensures sound { OnOk result (IsNet net.new) }
 {
     'commands: for at in first..commands.len() {
-        if net.is_finished() {
+        if net.is_over() {
             return Ok(at);
         }
         if !obey(commands[at], net)? {

@@ -1,6 +1,6 @@
 //! Laws of machines and of replays. Each function does nothing when it is called: its contract is the law.
 
-ghost use Rattle.std.specs.Prelude.{◌≡◌, ℕ, ◌≤◌, List, length, take};
+ghost use Rattle.std.specs.Prelude.{◌≡◌, ℕ, ◌≤◌, List, length, sum_by, take};
 ghost use Rattle.nona_tree.specs.declared.outcomes.Outcome.TheVariants as outcome;
 ghost use Rattle.nona_tree.specs.Memory.{Memory};
 ghost use Rattle.morta_task.specs.declared.schemes.Ask.{Ask};
@@ -10,8 +10,12 @@ ghost use Rattle.morta_task.specs.LogView.{LogView};
 ghost use Rattle.weave.specs.declared.script.Command.{Command};
 ghost use Rattle.weave.specs.Following.{follow};
 ghost use Rattle.net_flow.specs.Machines.{RunsOut};
+ghost use Rattle.net_flow.specs.MoveCounts.{sharing_moves};
+ghost use Rattle.net_flow.specs.Net.{Net, Task, moves_of};
+ghost use Rattle.net_share.specs.Kept.{most_moves};
 ghost use Rattle.weave.specs.Replay.{IsReplay};
 ghost use Rattle.weave.specs.SeqNet.{SeqNet, seq_machine, begun_net};
+ghost use Rattle.weave.specs.Shared.{begun_shared, shared_machine};
 ghost use Rattle.weave.specs.SeqState.{HasMoved, HasEndedAfter};
 
 /// Says how often the task of an interval under `seq` moves, wherever commands fall: at each moment once for each claim that was
@@ -27,9 +31,24 @@ pub fn seq_moves()
         → RunsOut seq_machine (begun_net e before limit m) end → end.end ≡ outcome.Done → end.granted ≡ limit }
 {}
 
+/// Says how often the tasks of an interval under `any` move, wherever commands fall: in all, once for each claim that was granted,
+/// once for each unit of each iteration, and once for each task, whose last claim is refused; and none of them moved more often than
+/// all together. No more claims were granted than the limit.
+pub fn shared_moves()
+    ensures end { (e : EntryView) (before limit workers : ℕ) (commands : List Command) (end : Net Memory (Unit {0}))
+        → RunsOut (shared_machine e before workers) (follow (shared_machine e before workers) commands (begun_shared e before limit workers)).net end
+        → moves_of end ≡ sharing_moves workers (length e.looped.body) end.granted }
+    ensures most { (tasks : List (Task Memory)) → most_moves tasks ≤ sum_by (λ (x : Task Memory). x.moves) tasks }
+    ensures granted { (e : EntryView) (before limit workers : ℕ) (commands : List Command) (end : Net Memory (Unit {0}))
+        → RunsOut (shared_machine e before workers) (follow (shared_machine e before workers) commands (begun_shared e before limit workers)).net end
+        → end.granted ≤ limit }
+{}
+
 /// Says that a machine runs out to one end.
 pub fn runs_out_to_one()
-    ensures { (net one other : SeqNet) → RunsOut seq_machine net one → RunsOut seq_machine net other → one ≡ other }
+    ensures one_task { (net one other : SeqNet) → RunsOut seq_machine net one → RunsOut seq_machine net other → one ≡ other }
+    ensures shared_tasks { (e : EntryView) (before workers : ℕ) (net one other : Net Memory (Unit {0}))
+        → RunsOut (shared_machine e before workers) net one → RunsOut (shared_machine e before workers) net other → one ≡ other }
 {}
 
 /// Says that the replay is one: two logs of the replay of the same commands by the same requests, over the same entries, agree as

@@ -6,10 +6,12 @@ mod following;
 mod laws;
 mod limits;
 mod net;
+mod one_task;
 mod script;
+mod shared_tasks;
 mod weaving;
 
-pub use laws::{replays_agree, runs_out_to_one, seq_moves};
+pub use laws::{replays_agree, runs_out_to_one, seq_moves, shared_moves};
 pub use limits::{CAPACITY, LAST_TASK, MOVES};
 pub use script::{Command, Script};
 pub use weaving::Weave;

@@ -1,238 +1,164 @@
-//! The machine of an interval under `seq`.
+//! The machine of an interval, in any version.
 
-ghost use Rattle.std.specs.Prelude.{◌≡◌, ◌≤◌, drop, false, IfOk, OnOk};
+ghost use Rattle.std.specs.Prelude.{◌≡◌, ◌<◌, ◌≤◌, true, IsTrue, IfOk, OnOk};
 ghost use Rattle.std.specs.Int.{int_gap};
-ghost use Rattle.morta_task.specs.Entries.{IsEntered, before, last};
-ghost use Rattle.morta_task.specs.Running.{IsHandoff};
-ghost use Rattle.net_flow.specs.Machines.{RunsOut, step_times as stepped_times};
-ghost use Rattle.weave.specs.SeqNet.{seq_machine, begun_net, claimed, step_at, moved, is_finished as has_finished, ran_of};
-ghost use Rattle.weave.specs.declared.net.Position.TheVariants as place;
-ghost use Rattle.weave.specs.Net.{place_before, store_before, stand_of, IsPlace, net_of, IsSet, IsNet};
+ghost use Rattle.morta_task.specs.Entries.{IsEntered, last, offers};
+ghost use Rattle.morta_task.specs.Running.{IsConfig, IsHandoff};
+ghost use Rattle.net_flow.specs.Machines.{RunsOut, is_over, round as round_of, step_times as stepped_times};
+ghost use Rattle.weave.specs.NetView.{BeginsIn, EndsWith, StepSays, after_pause, machine, tasks_of};
+ghost use Rattle.weave.specs.Nets.{IsNet, view_of};
+ghost use Rattle.weave.specs.Serving.{RunsIn};
 
-use morta_task::{Cut, Entry, Handoff, Ran, Work};
-use nona_code::Frame;
-use nona_num::offset;
-use nona_store::Store;
-use nona_tree::Outcome;
-use nona_units::{Units, leave, run_unit};
-use std::alloc::AllocError;
+use crate::one_task::OneTask;
+use crate::shared_tasks::SharedTasks;
+use morta_task::{Config, Entry, Handoff, Ran, RegionCode, Scheme};
+use net_share::StepEnd;
+use std::alloc::{AllocError, Global};
 
-/// Where the task stands.
-#[derive(Clone, Copy)]
-pub enum Position {
-    /// Before a claim.
-    Claims,
-    /// Before the unit of its iteration that has this number, from 0.
-    Unit(usize),
-    /// It has finished.
-    Finished,
-}
-
-/// The one task of an interval: it claims an iteration, does its units in text order, and claims again. A claim is refused
-/// behind the limit or the pause, and that finishes the task; so does a unit that ends otherwise than done.
+/// The machine of an interval: one task, or tasks that share the iterations.
 #[derive(Drop)]
-pub struct Net<'a> {
-    entry: &'a Entry,
-    units: &'a Units,
-    frame: Frame,
-    /// How many scalars there are around an iteration.
-    depth: usize,
-    /// The index of the first iteration.
-    from: i64,
-    /// How many iterations may be granted.
-    limit: u64,
-    granted: u64,
-    paused: bool,
-    place: Position,
-    store: Store,
-    /// How the last iteration ended.
-    end: Outcome,
-    /// How often the task moved.
-    moves: u64,
-}
-
-/// The place before the unit with this number. Behind the last one it is that before a claim, and the scalars behind the
-/// first `depth` go.
-fn arrive(units: &Units, at: usize, depth: usize, store: &mut Store) -> Position
-    ensures place { stand_of units.now.body result ≡ place_before (drop at units.now.body) }
-    ensures store { store.new ≡ store_before depth (drop at units.now.body) store.old }
-    ensures number { IsPlace units.now.body result }
-{
-    if at < units.count() {
-        Position::Unit(at)
-    } else {
-        leave(depth, store);
-        Position::Claims
-    }
+pub enum Net<'a> {
+    One(OneTask<'a>),
+    Shared(SharedTasks<'a>),
 }
 
 impl<'a> Net<'a> {
-    /// The machine of an interval of an entry to a loop of these units: it begins where the handoff stands, and grants up to
-    /// `limit` iterations. Nothing is copied; a frame is made, which takes constant time. An error comes where memory runs out.
+    /// The machine of an interval of an entry to the loop of this region, in a configuration that the entry offers: it begins where
+    /// the handoff stands, and grants up to `limit` iterations. An error comes where memory runs out.
     pub fn begin(
+        alloc: Global,
         entry: &'a Entry,
-        units: &'a Units,
+        code: &'a RegionCode,
         handoff: Handoff,
+        config: Config,
         limit: u64,
     ) -> Result<Net<'a>, AllocError>
         requires entered { IsEntered entry.now }
-        requires units { units.now.body ≡ entry.now.looped.body }
+        requires served { RunsIn entry.now.looped entry.now.plan config.scheme }
+        requires offered { IsTrue (offers entry.now config.scheme) }
+        requires workers { IsConfig config }
+        requires looped { code.now.looped ≡ entry.now.looped }
         requires state { IsHandoff entry.now handoff }
         requires room { limit ≤ int_gap handoff.next (last entry.now) }
-        ensures net { IfOk result (λ net. net_of net ≡ begun_net entry.now (before entry.now handoff.next) limit handoff.store) }
+        ensures net { IfOk result (λ net. BeginsIn config.scheme config.workers entry.now handoff.next limit handoff.store (view_of net)) }
         ensures sound { IfOk result IsNet }
     {
-        let frame = units.frame()?;
-        let Handoff { next, store } = handoff;
-        let _last = entry.last();
-        let _turns = entry.turns();
-        Ok(Net {
-            entry,
-            units,
-            frame,
-            depth: store.depth(),
-            from: next,
-            limit,
-            granted: 0,
-            paused: false,
-            place: Position::Claims,
-            store,
-            end: Outcome::Done,
-            moves: 0,
-        })
+        match config.scheme {
+            Scheme::Seq => {
+                let task = OneTask::begin(entry, code.units(), handoff, limit)?;
+                Ok(Net::One(task))
+            }
+            Scheme::Any => {
+                let tasks = SharedTasks::begin(alloc, entry, code, handoff, config.workers, limit)?;
+                Ok(Net::Shared(tasks))
+            }
+            Scheme::Pipe => unreachable!(),
+        }
     }
 
-    /// Whether the task has finished.
-    pub fn is_finished(&self) -> bool
-        ensures { result ≡ has_finished (net_of self.now).place }
+    /// How many tasks there are.
+    pub fn tasks(&self) -> usize
+        ensures { result ≡ tasks_of (view_of self.now) }
     {
-        match self.place {
-            Position::Finished => true,
-            _ => false,
+        match self {
+            Net::One(_) => 1,
+            Net::Shared(tasks) => tasks.tasks(),
+        }
+    }
+
+    /// Whether all tasks have finished.
+    pub fn is_over(&self) -> bool
+        requires { IsNet self.now }
+        ensures { result ≡ is_over machine (view_of self.now) }
+    {
+        match self {
+            Net::One(task) => task.is_finished(),
+            Net::Shared(tasks) => tasks.is_over(),
         }
     }
 
     /// Sets the pause mark: no claim is granted any more.
     pub fn pause(&mut self)
         requires { IsNet self.old }
-        ensures net { net_of self.new ≡ seq_machine.pause (net_of self.old) }
+        ensures net { view_of self.new ≡ after_pause (view_of self.old) }
         ensures sound { IsNet self.new }
     {
-        self.paused = true;
-    }
-
-    /// Claims the next iteration, whose index is then declared, or is refused and finishes.
-    fn claim(&mut self) -> Result<(), AllocError>
-        requires set { IsSet self.old }
-        ensures net { OnOk result (net_of self.new ≡ claimed (net_of self.old)) }
-        ensures set { OnOk result (IsSet self.new) }
-    {
-        if self.paused || self.granted >= self.limit {
-            self.place = Position::Finished;
-            return Ok(());
-        }
-        let index = offset(self.from, self.granted);
-        self.store.push_scalar(index)?;
-        self.granted += 1;
-        self.place = arrive(self.units, 0, self.depth, &mut self.store);
-        Ok(())
-    }
-
-    /// Does the unit of the iteration that has this number. One that ends otherwise than done finishes the task.
-    fn do_unit(&mut self, at: usize) -> Result<(), AllocError>
-        requires net { IsNet self.old }
-        requires place { self.old.place ≡ place.Unit at }
-        ensures net { OnOk result (net_of self.new ≡ step_at (net_of self.old).place (net_of self.old)) }
-        ensures set { OnOk result (IsSet self.new) }
-    {
-        let turns = self.entry.turns();
-        match run_unit(self.units, at, &mut self.frame, turns, &mut self.store)? {
-            Outcome::Done => {
-                self.place = arrive(self.units, at + 1, self.depth, &mut self.store);
-            }
-            end => {
-                leave(self.depth, &mut self.store);
-                self.end = end;
-                self.place = Position::Finished;
-            }
-        }
-        Ok(())
-    }
-
-    /// Does what comes next: a claim, or a unit, or nothing where the task has finished.
-    fn act(&mut self) -> Result<(), AllocError>
-        requires { IsNet self.old }
-        ensures net { OnOk result (net_of self.new ≡ step_at (net_of self.old).place (net_of self.old)) }
-        ensures set { OnOk result (IsSet self.new) }
-    {
-        match self.place {
-            Position::Claims => self.claim(),
-            Position::Unit(at) => self.do_unit(at),
-            Position::Finished => Ok(()),
+        match self {
+            Net::One(task) => task.pause(),
+            Net::Shared(tasks) => tasks.pause(),
         }
     }
 
-    /// Does one step: a claim, or one unit. It takes constant time beside the unit, and no memory that the unit doesn't
-    /// take. An error comes where memory runs out, and the machine is then spent.
-    pub fn step(&mut self) -> Result<(), AllocError>
-        requires net { IsNet self.old }
-        requires goes_on { has_finished (net_of self.old).place ≡ false }
-        ensures net { OnOk result (net_of self.new ≡ moved (net_of self.old)) }
+    /// Does one step of a task: a claim, or one unit, or nothing where it has finished. It takes constant time beside the unit. An error
+    /// comes where memory runs out, and the machine is then spent.
+    fn step(&mut self, task: usize) -> Result<StepEnd, AllocError>
+        requires sound { IsNet self.old }
+        requires there { task < tasks_of (view_of self.old) }
+        ensures says { IfOk result (λ end. StepSays end task (view_of self.old) (view_of self.new)) }
         ensures sound { OnOk result (IsNet self.new) }
     {
-        self.act()?;
-        self.moves += 1;
-        Ok(())
+        match self {
+            Net::One(one) => {
+                if one.is_finished() {
+                    return Ok(StepEnd::Finished);
+                }
+                one.step()?;
+                Ok(StepEnd::Moved)
+            }
+            Net::Shared(tasks) => tasks.step(task),
+        }
     }
 
-    /// Steps so often, or until the task has finished.
-    pub fn step_times(&mut self, moves: u64) -> Result<(), AllocError>
-        requires { IsNet self.old }
-        ensures net { OnOk result (net_of self.new ≡ stepped_times seq_machine moves 0 (net_of self.old)) }
+    /// Steps a task so often, or until it waits once or has finished.
+    pub fn step_times(&mut self, task: usize, moves: u64) -> Result<(), AllocError>
+        requires sound { IsNet self.old }
+        requires there { task < tasks_of (view_of self.old) }
+        ensures net { OnOk result (view_of self.new ≡ stepped_times machine moves task (view_of self.old)) }
         ensures sound { OnOk result (IsNet self.new) }
     {
         'steps: for _taken in 0..moves {
-            if self.is_finished() {
-                break;
+            match self.step(task)? {
+                StepEnd::Moved => {}
+                StepEnd::Waits | StepEnd::Finished => return Ok(()),
             }
-            self.step()?;
         }
         Ok(())
     }
 
-    /// Steps until the task has finished.
-    pub fn run_out(&mut self) -> Result<(), AllocError>
+    /// Steps each task once, from task 0 on.
+    fn round(&mut self) -> Result<(), AllocError>
         requires { IsNet self.old }
-        ensures net { OnOk result (RunsOut seq_machine (net_of self.old) (net_of self.new)) }
+        ensures net { OnOk result (view_of self.new ≡ round_of machine (view_of self.old)) }
         ensures sound { OnOk result (IsNet self.new) }
     {
-        'steps: while !self.is_finished() {
-            self.step()?;
+        'tasks: for task in 0..self.tasks() {
+            let _end = self.step(task)?;
         }
         Ok(())
     }
 
-    /// What the interval did, and the live state that it hands on. The store is moved.
-    pub fn finish(self) -> (Handoff, Ran)
-        requires { IsNet self }
-        ensures ran { result.1 ≡ ran_of (net_of self.entry) }
-        ensures next { result.0.next ≡ result.1.to }
-        ensures store { result.0.store ≡ (net_of self.entry).store }
+    /// Steps the tasks round robin until all have finished.
+    pub fn run_out(&mut self) -> Result<(), AllocError>
+        requires { IsNet self.old }
+        ensures net { OnOk result (RunsOut machine (view_of self.old) (view_of self.new)) }
+        ensures sound { OnOk result (IsNet self.new) }
     {
-        let to = offset(self.from, self.granted);
-        let ran = Ran {
-            to,
-            work: Some(Work {
-                steps: self.moves,
-                waits: 0,
-            }),
-            ticks: self.moves,
-            cut: Cut::of(self.end, self.granted, self.limit),
-        };
-        let handoff = Handoff {
-            next: to,
-            store: self.store,
-        };
-        (handoff, ran)
+        'rounds: while !self.is_over() {
+            self.round()?;
+        }
+        Ok(())
+    }
+
+    /// What the interval did, and the live state that it hands on, once all tasks have finished. The store is moved. An error comes
+    /// where memory runs out.
+    pub fn settle(self) -> Result<(Handoff, Ran), AllocError>
+        requires sound { IsNet self }
+        requires over { is_over machine (view_of self) ≡ true }
+        ensures { IfOk result (λ r. EndsWith (view_of self.entry) r.1 r.0) }
+    {
+        match self {
+            Net::One(task) => Ok(task.finish()),
+            Net::Shared(tasks) => tasks.settle(),
+        }
     }
 }

@@ -1,21 +1,22 @@
 //! The replay of a script.
 
-ghost use Rattle.std.specs.Prelude.{◌≡◌, ◌≤◌, drop, IfOk, OnOk, MatchOption};
+ghost use Rattle.std.specs.Prelude.{◌≡◌, ◌≤◌, IsTrue, drop, IfOk, OnOk, MatchOption};
 ghost use Rattle.std.specs.Int.{int_gap};
-ghost use Rattle.morta_task.specs.declared.schemes.Scheme.TheVariants.{Seq};
-ghost use Rattle.morta_task.specs.Entries.{IsEntered, last};
-ghost use Rattle.morta_task.specs.Running.{IsHandoff, IsDone, HandsOn, seq_one};
+ghost use Rattle.morta_task.specs.Entries.{IsEntered, last, offers};
+ghost use Rattle.morta_task.specs.Running.{IsConfig, IsHandoff, IsDone, HandsOn, seq_one};
 ghost use Rattle.weave.specs.declared.limits.TheConstants as limits;
 ghost use Rattle.weave.specs.Following.{AreCommands};
 ghost use Rattle.weave.specs.Replay.{commands_left, IsReplayed};
 ghost use Rattle.weave.specs.Asking.{IsNoUse, IsUseAt};
+ghost use Rattle.weave.specs.Serving.{RunsIn};
 ghost use Rattle.weave.specs.WeavePromise.{weave_promise, by_anyone};
 
 use crate::following::follow;
 use crate::net::Net;
 use crate::script::{Command, Script};
-use morta_task::{Ask, Asker, Config, Entry, Handoff, Image, Interval, Morta, Ran, Runner};
-use nona_units::Units;
+use morta_task::{
+    Ask, Asker, Config, Entry, Handoff, Image, Interval, Morta, Ran, RegionCode, Runner,
+};
 use std::alloc::AllocError;
 use std::marker::Model;
 
@@ -84,19 +85,21 @@ impl Weave {
         self.capacity
     }
 
-    /// Runs an interval of an entry to a loop of these units in one thread: the commands are followed, and then the task steps until it has
-    /// finished. An error comes where memory runs out: the handoff is then spent.
-    pub(crate) fn run_in_sequence(
+    /// Runs an interval of an entry to the loop of this region, in a configuration that the entry offers: the commands are followed,
+    /// and then the tasks step until all have finished. An error comes where memory runs out: the handoff is then spent.
+    pub(crate) fn run(
         &mut self,
-        units: &Units,
         entry: &Entry,
+        code: &RegionCode,
         handoff: Handoff,
         config: Config,
         limit: u64,
     ) -> Result<(Handoff, Ran), AllocError>
-        requires seq { config.scheme ≡ Seq }
         requires entered { IsEntered entry.now }
-        requires units { units.now.body ≡ entry.now.looped.body }
+        requires served { RunsIn entry.now.looped entry.now.plan config.scheme }
+        requires offered { IsTrue (offers entry.now config.scheme) }
+        requires workers { IsConfig config }
+        requires looped { code.now.looped ≡ entry.now.looped }
         requires state { IsHandoff entry.now handoff }
         requires room { limit ≤ int_gap handoff.next (last entry.now) }
         ensures done { IfOk result (λ r. IsDone entry.now config handoff.next limit r.1) }
@@ -105,11 +108,11 @@ impl Weave {
         ensures left { OnOk result (self.new
             ≡ record self.old { left = commands_left self.old.capacity config entry.now handoff.next limit self.old.left }) }
     {
-        let _ = config;
-        let mut net = Net::begin(entry, units, handoff, limit)?;
+        let alloc = *self.script.commands.allocator();
+        let mut net = Net::begin(alloc, entry, code, handoff, config, limit)?;
         self.at = follow(&self.script.commands, self.at, &mut net)?;
         net.run_out()?;
-        Ok(net.finish())
+        net.settle()
     }
 }
 
@@ -131,7 +134,7 @@ impl Runner for Weave {
         limit: u64,
     ) -> Result<(Handoff, Ran), AllocError> {
         let code = image.region(entry.region());
-        let done = self.run_in_sequence(code.units(), entry, handoff, config, limit)?;
+        let done = self.run(entry, code, handoff, config, limit)?;
         Ok(done)
     }
 }

@@ -17,7 +17,7 @@ use Rattle.morta_exec.specs.Log.{ServesAll}
 use Rattle.parcae.specs.declared.replays.TheConstants.{CAPACITY}
 use Rattle.parcae.specs.Told.{told_of, finished, once_sent}
 use Rattle.parcae.specs.Ends.{Ends}
-use Rattle.parcae.specs.Files.{AskForSeq}
+use Rattle.parcae.specs.Files.{AskForSeqOrAny}
 use Rattle.weave.specs.declared.script.Command.{Command as Order}
 use Rattle.parcae.specs.Due.{entries_in, where_asked, behind_numbers, DueOfDrive, drive_ran, drive_unbegun}
 use Rattle.parcae.proofs.Ending.{ends_unbegun, ends_behind}
@@ -26,8 +26,9 @@ use Rattle.parcae.proofs.replays.replay_script.Goals as goal
 
 pub drive-requires-clause-serves : goal.drive-requires-clause-serves
 drive-requires-clause-serves g c =
-    serves_all c.new-weave.result c.in-Ok.image
-    (subst (λ (script : List Order). AskForSeq script) (sym (ap (λ (w : WeaveView). w.script) c.new-weave.ensures)) c.requires.alone)
+    serves_all c.new-weave.result c.args.program.now c.in-Ok.image c.in-Ok.ensures
+    (subst (λ (script : List Order). AskForSeqOrAny script) (sym (ap (λ (w : WeaveView). w.script) c.new-weave.ensures)) c.requires.versions)
+    c.plan_is_lawful.ensures
 
 pub drive-requires-clause-scoped : goal.drive-requires-clause-scoped
 drive-requires-clause-scoped g c =

@@ -1,0 +1,12 @@
+mod UnitRuns
+mod Moves
+mod Keeping
+mod Beginning
+mod Gathering
+mod Apart
+mod Listed
+mod Claimed
+mod SharedOut
+mod UnitsLeft
+mod EntryNets
+mod SettledViews

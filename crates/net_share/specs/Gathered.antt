@@ -1,0 +1,36 @@
+-- What tasks leave together beside a store, put into it.
+use Rattle.std.specs.Prelude.{ℕ, ℤ, pos, List, [], ◌∷◌, map, slice_index_or}
+use Rattle.std.specs.declared.option.Option.{Option}
+use Rattle.nona_num.specs.declared.folds.Fold.{Fold}
+use Rattle.nona_num.specs.Folds.{join_of}
+use Rattle.nona_tree.specs.Memory.{Memory, scalar_at, assign}
+use Rattle.nona_store.specs.Overlays.{over_of, unwritten, under, with_changes}
+use Rattle.nona_store.specs.Shares.{shared}
+use Rattle.net_share.specs.Tasks.{TaskView}
+
+-- the store that each of these tasks sees
+abbrev pub views_of : Memory → List TaskView → List Memory
+views_of m tasks = map (λ (x : TaskView). shared m x.share) tasks
+
+-- what is written over a store, with what each of these tasks has changed, one task after another
+abbrev pub all_changes : Memory → List TaskView → (ℕ → ℕ → Option ℤ) → ℕ → ℕ → Option ℤ
+all_changes m [] over = over
+all_changes m (x ∷ rest) over = all_changes m rest (with_changes m (over_of x.share.written) over)
+
+-- a task's own value of a scalar
+abbrev pub own_scalar : ℕ → TaskView → ℤ
+own_scalar id x = slice_index_or x.share.scalars id (pos 0)
+
+-- a number joined with the values that these tasks have of a scalar, in order
+abbrev pub joined_with : ℕ → Fold → ℤ → List TaskView → ℤ
+joined_with id f now [] = now
+joined_with id f now (x ∷ rest) = joined_with id f (join_of f now (own_scalar id x)) rest
+
+-- a store in which each reduction has its value joined with those of the tasks
+abbrev pub with_joined : List (ℕ × Fold) → List TaskView → Memory → Memory
+with_joined [] tasks m = m
+with_joined (r ∷ rest) tasks m = with_joined rest tasks (assign r.0 (joined_with r.0 r.1 (scalar_at m r.0) tasks) m)
+
+-- the store with what all tasks have changed, and each reduction joined
+abbrev pub gathered : List (ℕ × Fold) → List TaskView → Memory → Memory
+gathered reductions tasks m = with_joined reductions tasks (under (all_changes m tasks (over_of unwritten)) m)

@@ -1,0 +1,306 @@
+//! A task that shares the iterations of an interval.
+
+ghost use Rattle.std.specs.Prelude.{◌≡◌, ◌<◌, ◌+◌, ◌≤◌, ◌^◌, ◌+ℤ◌, ℕ, pos, drop, length, FitsSigned, IfOk, OnOk};
+ghost use Rattle.std.specs.Int.{w64};
+ghost use Rattle.nona_store.specs.Overlays.{HasCells, over_of};
+ghost use Rattle.nona_store.specs.Shares.{shared};
+ghost use Rattle.nona_tree.specs.Memory.{Memory, cut_to, declare};
+ghost use Rattle.net_share.specs.May.{MayRunFirst};
+ghost use Rattle.net_flow.specs.Net.{arrives, enters, leaves, closes};
+ghost use Rattle.net_share.specs.Works.{Doing, doing, run_first, task_work};
+ghost use Rattle.net_share.specs.declared.iterations.Iterations.{Iterations};
+
+use crate::iterations::Iterations;
+use nona_code::{Frame, UnitEnd};
+use nona_num::offset;
+use nona_store::{Bank, Overlay, Share, ShareBank, Store};
+use nona_units::Units;
+use std::alloc::{AllocError, Global};
+use std::marker::Model;
+
+/// Where a task stands.
+#[derive(Clone, Copy, Debug, PartialEq, Eq)]
+pub enum Position {
+    /// Before a claim.
+    Claims,
+    /// Before the unit of its iteration that has this number, from 0.
+    Unit(usize),
+    /// It has finished.
+    Finished,
+}
+
+/// A task: its number; where it stands; how many iterations it has done, and the number of the one that it is in; its share of the
+/// store; a frame with room for each unit; and how often it moved.
+#[derive(Drop)]
+pub(crate) struct Task {
+    number: usize,
+    position: Position,
+    done: u64,
+    iteration: u64,
+    share: Share,
+    frame: Frame,
+    moves: u64,
+}
+
+impl Model for Task {
+    ghost use Rattle.net_share.specs.Tasks.{TaskView};
+
+    ghost Value = { TaskView };
+
+    ghost view = { λ t. record {
+      number = t.number;
+      position = t.position;
+      done = t.done;
+      iteration = t.iteration;
+      share = t.share;
+      moves = t.moves;
+      room = t.frame.room;
+    } };
+}
+
+/// Runs the unit with this number on a task's share of a store.
+#[tactic(auto, using(crate::proofs::UnitRuns::same_base))]
+fn run_on(
+    units: &Units,
+    at: usize,
+    turns: u64,
+    frame: &mut Frame,
+    store: &Store,
+    share: &mut Share,
+) -> Result<(), AllocError>
+    requires there { at < length units.now.body }
+    requires room { units.now.room ≤ frame.old.room }
+    requires may { MayRunFirst (drop at units.now.body) turns (shared store.now share.old) }
+    requires cells { HasCells store.now (over_of share.old.written) }
+    ensures run { OnOk result (shared store.now share.new ≡ (run_first (drop at units.now.body) turns (shared store.now share.old)).store) }
+    ensures room { frame.new.room ≡ frame.old.room }
+    ensures cells { OnOk result (HasCells store.now (over_of share.new.written)) }
+{
+    let mut bank = ShareBank::over(store, share.take());
+    let end = frame.unit(units.code(at), &mut bank, turns);
+    *share = bank.into_share();
+    match end {
+        UnitEnd::Done => Ok(()),
+        UnitEnd::Trap { kind: _, at: _ } | UnitEnd::OutOfTurns { at: _ } => unreachable!(),
+        UnitEnd::NoMemory => Err(AllocError),
+    }
+}
+
+/// Declares a scalar in a task's share of a store.
+fn declare_on(value: i64, store: &Store, share: &mut Share) -> Result<(), AllocError>
+    requires { HasCells store.now (over_of share.old.written) }
+    ensures share { OnOk result (shared store.now share.new ≡ declare value (shared store.now share.old)) }
+    ensures cells { OnOk result (HasCells store.now (over_of share.new.written)) }
+{
+    let mut bank = ShareBank::over(store, share.take());
+    let pushed = bank.push_scalar(value);
+    *share = bank.into_share();
+    pushed
+}
+
+/// The scalars of a task's share behind the first `depth` go.
+fn leave_on(depth: usize, store: &Store, share: &mut Share)
+    requires { HasCells store.now (over_of share.old.written) }
+    ensures share { shared store.now share.new ≡ cut_to depth (shared store.now share.old) }
+    ensures cells { HasCells store.now (over_of share.new.written) }
+{
+    let behind = share.scalars().len().saturating_sub(depth);
+    let mut bank = ShareBank::over(store, share.take());
+    bank.cut_scalars(behind);
+    *share = bank.into_share();
+}
+
+impl Task {
+    ghost use Rattle.net_share.specs.Gathered.{own_scalar};
+    ghost use Rattle.net_share.specs.Tasks.{CanCount, counted, new_task, task_over, unit_done};
+
+    /// A task with this number before its first step, with these scalars, and a frame with room for each unit. It is refused for want
+    /// of memory alone.
+    pub(crate) fn begin(
+        alloc: Global,
+        number: usize,
+        units: &Units,
+        scalars: Vec<i64>,
+    ) -> Result<Task, AllocError>
+        ensures { IfOk result (λ task. task ≡ new_task number scalars.items units.now.room) }
+    {
+        let frame = units.frame()?;
+        Ok(Task {
+            number,
+            position: Position::Claims,
+            done: 0,
+            iteration: 0,
+            share: Share::begin(alloc, scalars),
+            frame,
+            moves: 0,
+        })
+    }
+
+    /// The cells that it has written.
+    pub(crate) fn overlay(&self) -> &Overlay
+        ensures { result.now ≡ self.now.share.written }
+    {
+        self.share.overlay()
+    }
+
+    /// Its own value of a scalar; 0 where it has no scalar with this id.
+    pub(crate) fn scalar(&self, id: u32) -> i64
+        ensures { result ≡ own_scalar id self.now }
+    {
+        self.share.scalars().get(id as usize).copied().unwrap_or(0)
+    }
+
+    /// How often it moved.
+    pub(crate) fn moves(&self) -> u64
+        ensures { result ≡ self.now.moves }
+    {
+        self.moves
+    }
+
+    /// Where it stands.
+    pub(crate) fn position(&self) -> Position
+        ensures { result ≡ self.now.position }
+    {
+        self.position
+    }
+
+    /// Leaves its iteration: the scalars in it go.
+    fn leave(&mut self, depth: usize, store: &Store)
+        requires done { self.old.done + 1 < 2 ^ 64 }
+        requires cells { HasCells store.now (over_of self.old.share.written) }
+        ensures task { (i : Iterations) → task_over store.now self.new ≡ leaves (task_work (doing i depth)) (task_over store.now self.old) }
+        ensures room { self.new.room ≡ self.old.room }
+        ensures moves { self.new.moves ≡ self.old.moves }
+        ensures cells { HasCells store.now (over_of self.new.share.written) }
+    {
+        leave_on(depth, store, &mut self.share);
+        self.done += 1;
+        self.position = Position::Claims;
+    }
+
+    /// Comes before the unit of its iteration with this number, or behind the last one.
+    fn arrive(&mut self, unit: usize, iterations: &Iterations, depth: usize, store: &Store)
+        requires done { self.old.done + 1 < 2 ^ 64 }
+        requires cells { HasCells store.now (over_of self.old.share.written) }
+        ensures task { task_over store.now self.new ≡ arrives (task_work (doing iterations.now depth)) unit (task_over store.now self.old) }
+        ensures room { self.new.room ≡ self.old.room }
+        ensures moves { self.new.moves ≡ self.old.moves }
+        ensures cells { HasCells store.now (over_of self.new.share.written) }
+    {
+        if unit < iterations.units.count() {
+            self.position = Position::Unit(unit);
+        } else {
+            self.leave(depth, store);
+        }
+    }
+
+    /// Enters the iteration with this number: its index is a new scalar.
+    fn enter(
+        &mut self,
+        number: u64,
+        iterations: &Iterations,
+        depth: usize,
+        store: &Store,
+    ) -> Result<(), AllocError>
+        requires done { self.old.done + 1 < 2 ^ 64 }
+        requires fits { FitsSigned w64 (iterations.now.from +ℤ pos number) }
+        requires cells { HasCells store.now (over_of self.old.share.written) }
+        ensures task { OnOk result (task_over store.now self.new
+            ≡ enters (task_work (doing iterations.now depth)) number tt (task_over store.now self.old)) }
+        ensures room { OnOk result (self.new.room ≡ self.old.room) }
+        ensures moves { OnOk result (self.new.moves ≡ self.old.moves) }
+        ensures cells { OnOk result (HasCells store.now (over_of self.new.share.written)) }
+    {
+        let index = offset(iterations.from, number);
+        declare_on(index, store, &mut self.share)?;
+        self.iteration = number;
+        self.arrive(0, iterations, depth, store);
+        Ok(())
+    }
+
+    /// Begins the iteration with this number: one move.
+    pub(crate) fn begins(
+        &mut self,
+        number: u64,
+        iterations: &Iterations,
+        depth: usize,
+        store: &Store,
+    ) -> Result<(), AllocError>
+        requires counts { CanCount iterations.now.units.now self.old }
+        requires fits { FitsSigned w64 (iterations.now.from +ℤ pos number) }
+        requires cells { HasCells store.now (over_of self.old.share.written) }
+        ensures task { OnOk result (task_over store.now self.new
+            ≡ counted (enters (task_work (doing iterations.now depth)) number tt (task_over store.now self.old))) }
+        ensures room { OnOk result (self.new.room ≡ self.old.room) }
+        ensures cells { OnOk result (HasCells store.now (over_of self.new.share.written)) }
+    {
+        self.enter(number, iterations, depth, store)?;
+        self.moves += 1;
+        Ok(())
+    }
+
+    /// Does the unit of its iteration with this number, and comes before the next one.
+    fn do_unit(
+        &mut self,
+        unit: usize,
+        iterations: &Iterations,
+        depth: usize,
+        store: &Store,
+    ) -> Result<(), AllocError>
+        requires there { unit < length iterations.now.units.now.body }
+        requires room { iterations.now.units.now.room ≤ self.old.room }
+        requires done { self.old.done + 1 < 2 ^ 64 }
+        requires may { MayRunFirst (drop unit iterations.now.units.now.body) iterations.now.turns (shared store.now self.old.share) }
+        requires cells { HasCells store.now (over_of self.old.share.written) }
+        ensures task { OnOk result (task_over store.now self.new
+            ≡ unit_done (task_work (doing iterations.now depth)) unit (task_over store.now self.old)) }
+        ensures room { OnOk result (self.new.room ≡ self.old.room) }
+        ensures moves { OnOk result (self.new.moves ≡ self.old.moves) }
+        ensures cells { OnOk result (HasCells store.now (over_of self.new.share.written)) }
+    {
+        let _count = iterations.units.count();
+        run_on(
+            iterations.units,
+            unit,
+            iterations.turns,
+            &mut self.frame,
+            store,
+            &mut self.share,
+        )?;
+        self.arrive(unit + 1, iterations, depth, store);
+        Ok(())
+    }
+
+    /// Does the unit of its iteration with this number: one move.
+    pub(crate) fn does_unit(
+        &mut self,
+        unit: usize,
+        iterations: &Iterations,
+        depth: usize,
+        store: &Store,
+    ) -> Result<(), AllocError>
+        requires there { unit < length iterations.now.units.now.body }
+        requires counts { CanCount iterations.now.units.now self.old }
+        requires may { MayRunFirst (drop unit iterations.now.units.now.body) iterations.now.turns (shared store.now self.old.share) }
+        requires cells { HasCells store.now (over_of self.old.share.written) }
+        ensures task { OnOk result (task_over store.now self.new
+            ≡ counted (unit_done (task_work (doing iterations.now depth)) unit (task_over store.now self.old))) }
+        ensures room { OnOk result (self.new.room ≡ self.old.room) }
+        ensures cells { OnOk result (HasCells store.now (over_of self.new.share.written)) }
+    {
+        self.do_unit(unit, iterations, depth, store)?;
+        self.moves += 1;
+        Ok(())
+    }
+
+    /// Finishes: one move.
+    pub(crate) fn finishes(&mut self)
+        requires { self.old.moves + 1 < 2 ^ 64 }
+        ensures task { (m : Memory) (does : Doing) → task_over m self.new ≡ counted (closes (task_work does) (task_over m self.old)) }
+        ensures room { self.new.room ≡ self.old.room }
+        ensures share { self.new.share ≡ self.old.share }
+    {
+        self.position = Position::Finished;
+        self.moves += 1;
+    }
+}

@@ -1,0 +1,27 @@
+-- What one of several tasks sees of a store.
+use Rattle.std.specs.Prelude.{◌++◌, true, false, ℤ, List, None, Some}
+use Rattle.nona_tree.specs.Memory.{Memory}
+use Rattle.nona_store.specs.declared.overlay.Place.{Place}
+use Rattle.nona_store.specs.Banks.{Limits}
+use Rattle.nona_store.specs.Overlays.{over_of, arrays_under}
+
+-- a task's own scalars, the cells that it has written, and what it has printed
+pub record ShareView : Type 0 where
+  pub scalars : List ℤ
+  pub written : List (Place × ℤ)
+  pub printed : List ℤ
+
+-- the store that a task sees: its own scalars, the cells of a store under those that it has written, and behind what the store
+-- has printed what it has printed itself
+abbrev pub shared : Memory → ShareView → Memory
+shared m share = record { scalars = share.scalars; arrays = arrays_under (over_of share.written) 0 m.arrays; printed = m.printed ++ share.printed }
+
+-- a store, and what a task has beside it
+pub record BankView : Type 0 where
+  pub store : Memory
+  pub share : ShareView
+
+-- every cell may be loaded and saved, any number of scalars may stand, and numbers may be printed; memory may run out; and
+-- what is written stands beside this store
+abbrev pub all_beside : Memory → Limits
+all_beside m = record { loads = λ array place. true; saves = λ array place. true; room = None; prints = true; firm = false; base = Some m }

@@ -1,0 +1,208 @@
+ghost use Rattle.std.specs.Prelude.{◌≡◌, ◌<◌, ◌≤◌, ◌-◌, ◌++◌, ◌∷◌, [], pos, length, take, slice_index_or, slice_set, OnOk, OnErr};
+ghost use Rattle.nona_store.specs.Overlays.{HasCells, over_of, unwritten, with_cell};
+
+use crate::banks::Bank;
+use crate::overlay::Overlay;
+use crate::store::Store;
+use std::alloc::{AllocError, Global};
+use std::marker::Model;
+use std::mem;
+
+/// A task's share of a store that several tasks compute on: scalars of its own, and the cells that it has written and the numbers
+/// that it has printed, which stand beside the store. Contracts see the three.
+#[derive(Drop)]
+pub struct Share {
+    scalars: Vec<i64>,
+    overlay: Overlay,
+    printed: Vec<i64>,
+}
+
+impl Model for Share {
+    ghost use Rattle.nona_store.specs.Shares.{ShareView};
+
+    ghost Value = { ShareView };
+
+    ghost view = { λ s. record { scalars = s.scalars.items; written = s.overlay; printed = s.printed.items } };
+}
+
+impl Share {
+    /// A share with these scalars, no written cell, and nothing printed. Takes no memory.
+    pub fn begin(alloc: Global, scalars: Vec<i64>) -> Share
+        ensures { result ≡ record { scalars = scalars.items; written = unwritten; printed = [] } }
+    {
+        Share {
+            scalars,
+            overlay: Overlay::begin(alloc),
+            printed: Vec::new(alloc),
+        }
+    }
+
+    /// Moves the share out, and leaves an empty one. Takes constant time and no memory.
+    pub fn take(&mut self) -> Share
+        ensures { result ≡ self.old }
+    {
+        let alloc = *self.scalars.allocator();
+        mem::replace(self, Share::begin(alloc, Vec::new(alloc)))
+    }
+
+    /// The cells that were written.
+    pub fn overlay(&self) -> &Overlay
+        ensures { result.now ≡ self.now.written }
+    {
+        &self.overlay
+    }
+
+    /// Its scalars, in order.
+    pub fn scalars(&self) -> &[i64]
+        ensures { result.now ≡ self.now.scalars }
+    {
+        self.scalars.as_slice()
+    }
+
+    /// The numbers that were printed, in order.
+    pub fn printed(&self) -> &[i64]
+        ensures { result.now ≡ self.now.printed }
+    {
+        self.printed.as_slice()
+    }
+
+    /// The scalar with this id, which is there.
+    fn scalar(&self, id: u32) -> i64
+        requires { id < length self.now.scalars }
+        ensures { result ≡ slice_index_or self.now.scalars id (pos 0) }
+    {
+        self.scalars[id as usize]
+    }
+
+    /// Gives the scalar with this id, which is there, a value.
+    fn set_scalar(&mut self, id: u32, value: i64)
+        requires { id < length self.old.scalars }
+        ensures { self.new ≡ record self.old { scalars = slice_set self.old.scalars id value } }
+    {
+        self.scalars[id as usize] = value;
+    }
+
+    /// Declares a scalar behind the others. Where memory runs out the share is unchanged.
+    fn push_scalar(&mut self, value: i64) -> Result<(), AllocError>
+        ensures ok { OnOk result (self.new ≡ record self.old { scalars = self.old.scalars ++ value ∷ [] }) }
+        ensures err { OnErr result (self.new ≡ self.old) }
+    {
+        self.scalars.push(value)?;
+        Ok(())
+    }
+
+    /// Drops the last scalars, of which there are at least `count`.
+    fn cut_scalars(&mut self, count: usize)
+        requires { count ≤ length self.old.scalars }
+        ensures { self.new ≡ record self.old { scalars = take (length self.old.scalars - count) self.old.scalars } }
+    {
+        let left = self.scalars.len() - count;
+        self.scalars.truncate(left);
+    }
+
+    /// Prints a number behind the others. Where memory runs out the share is unchanged.
+    fn print(&mut self, value: i64) -> Result<(), AllocError>
+        ensures ok { OnOk result (self.new ≡ record self.old { printed = self.old.printed ++ value ∷ [] }) }
+        ensures err { OnErr result (self.new ≡ self.old) }
+    {
+        self.printed.push(value)?;
+        Ok(())
+    }
+
+    /// The value that was written on a cell, if any was.
+    fn get(&self, array: u32, index: usize) -> Option<i64>
+        ensures { result ≡ over_of self.now.written array index }
+    {
+        self.overlay.get(array, index)
+    }
+
+    /// Writes a value on a cell. Where memory runs out the share is unchanged.
+    fn put(&mut self, array: u32, index: usize, value: i64) -> Result<(), AllocError>
+        ensures scalars { OnOk result (self.new.scalars ≡ self.old.scalars) }
+        ensures written { OnOk result (over_of self.new.written ≡ with_cell array index value (over_of self.old.written)) }
+        ensures printed { OnOk result (self.new.printed ≡ self.old.printed) }
+        ensures err { OnErr result (self.new ≡ self.old) }
+    {
+        self.overlay.put(array, index, value)
+    }
+}
+
+/// A store as a task sees it: the task's own scalars, the store's cells under those that the task has written, and behind what the
+/// store has printed what the task has printed. Every cell may be loaded and saved, and numbers may be printed. A load and a save
+/// take a time logarithmic in the number of written cells. What is written goes to the share alone, whose written cells are
+/// always cells of the store. It owns the share, which is moved in and out, so that the share is known after any calls.
+#[derive(Drop)]
+pub struct ShareBank<'a> {
+    store: &'a Store,
+    share: Share,
+}
+
+impl<'a> Model for ShareBank<'a> {
+    ghost use Rattle.nona_store.specs.Overlays.{HasCells, over_of};
+    ghost use Rattle.nona_store.specs.Shares.{BankView};
+
+    ghost Value = { BankView };
+
+    ghost view = { λ b. record { store = b.store.now; share = b.share } };
+
+    ghost invariant = { λ b. HasCells b.store.now (over_of b.share.written) };
+}
+
+impl<'a> ShareBank<'a> {
+    /// A task's share over a store; the written cells are ones of the store. Takes constant time and no memory.
+    pub fn over(store: &'a Store, share: Share) -> ShareBank<'a>
+        requires { HasCells store.now (over_of share.written) }
+        ensures { result ≡ record { store = store.now; share = share } }
+    {
+        ShareBank { store, share }
+    }
+
+    /// Moves the share out; its written cells are ones of the store. Takes constant time and no memory.
+    pub fn into_share(self) -> Share
+        ensures share { result ≡ self.entry.share }
+        ensures cells { HasCells self.entry.store (over_of result.written) }
+    {
+        self.share
+    }
+}
+
+impl<'a> Bank for ShareBank<'a> {
+    ghost use Rattle.nona_store.specs.Shares.{shared, all_beside};
+
+    ghost state = { λ b. shared b.store b.share };
+
+    ghost limits = { λ b. all_beside b.store };
+
+    fn scalar(&mut self, id: u32) -> i64 {
+        self.share.scalar(id)
+    }
+
+    fn set_scalar(&mut self, id: u32, value: i64) {
+        self.share.set_scalar(id, value);
+    }
+
+    fn push_scalar(&mut self, value: i64) -> Result<(), AllocError> {
+        self.share.push_scalar(value)
+    }
+
+    fn cut_scalars(&mut self, count: usize) {
+        self.share.cut_scalars(count);
+    }
+
+    fn length(&self, array: u32) -> usize {
+        self.store.length(array)
+    }
+
+    fn load(&mut self, array: u32, index: usize) -> i64 {
+        let own = self.store.cell(array, index);
+        self.share.get(array, index).unwrap_or(own)
+    }
+
+    fn save(&mut self, array: u32, index: usize, value: i64) -> Result<(), AllocError> {
+        self.share.put(array, index, value)
+    }
+
+    fn print(&mut self, value: i64) -> Result<(), AllocError> {
+        self.share.print(value)
+    }
+}

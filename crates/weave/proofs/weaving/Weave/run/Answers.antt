@@ -1,0 +1,55 @@
+use Rattle.std.proofs.Common.{◌≡◌, List, Result, Ok, Err, drop, sym, ap, ◌∙◌}
+use Rattle.std.specs.Result.{IfOk}
+use Rattle.morta_task.specs.declared.intervals.Handoff.{Handoff}
+use Rattle.morta_task.specs.declared.intervals.Ran.{Ran}
+use Rattle.weave.specs.declared.script.Command.{Command}
+use Rattle.weave.specs.Following.{follow}
+use Rattle.weave.specs.NetView.{EndsWith, machine}
+use Rattle.weave.specs.Nets.{view_of}
+use Rattle.weave.specs.WeaveView.{WeaveView}
+use Rattle.weave.proofs.Intervals.{IsInterval, is_interval}
+use Rattle.weave.proofs.Keeping.{out_is_over}
+use Rattle.weave.proofs.weaving.Weave.run.Goals as goal
+
+-- what follows from what stands of a value
+so : {T E : Type 0} (P Q : T → Type 0) (r : Result T E) → ((x : T) → P x → Q x) → IfOk r P → IfOk r Q
+so P Q (Ok x) on h = on x h
+so P Q (Err e) on h = tt
+
+-- the interval has run out
+interval : (c : goal.After-settle) (r : Handoff × Ran) → EndsWith (view_of c.run_out.new.self) r.1 r.0
+    → IsInterval c.args.config.scheme c.args.config.workers c.args.self.now.capacity c.args.config c.args.entry.now c.args.handoff c.args.limit c.args.self.now.left (drop c.in_ok-self-inside.field-0 c.deref.result.now) r.1 r.0
+interval c r ends =
+    let left : c.args.self.now.left ≡ drop c.self.inside.at c.deref.result.now =
+    ap (λ (w : WeaveView). w.left) (sym c.self.view_is) ∙ ap (drop c.self.inside.at) (sym c.deref.ensures.value) in
+    is_interval c.args.self.now.capacity c.args.config c.args.entry.now c.args.handoff c.args.limit c.args.self.now.left (drop c.in_ok-self-inside.field-0 c.deref.result.now) r.1 r.0
+    c.requires.workers c.requires.entered c.requires.state c.requires.room
+    (record {
+      first = view_of c.in_ok-net.net;
+      begun = c.in_ok-net.ensures.net;
+      net = view_of c.follow.new.net;
+      follows = ap (λ (cs : List Command). follow machine cs (view_of c.in_ok-net.net)) left ∙ c.in_ok-self-inside.ensures.follows;
+      end = view_of c.run_out.new.self;
+      out = c.in_ok-run_out.ensures.net;
+      ends = ends;
+    })
+
+pub settle-requires-clause-over : goal.settle-requires-clause-over
+settle-requires-clause-over c = out_is_over machine _ (view_of c.run_out.new.self) c.in_ok-run_out.ensures.net
+
+pub returns-clause-done : goal.returns-clause-done
+returns-clause-done c = so _ _ c.settle.result (λ r ends. (interval c r ends).did) c.settle.ensures
+
+pub returns-clause-hands_on : goal.returns-clause-hands_on
+returns-clause-hands_on c = so _ _ c.settle.result (λ r ends. (interval c r ends).hands_on) c.settle.ensures
+
+pub returns-clause-replayed : goal.returns-clause-replayed
+returns-clause-replayed c = so _ _ c.settle.result (λ r ends. (interval c r ends).replayed) c.settle.ensures
+
+pub returns-clause-left : goal.returns-clause-left
+returns-clause-left c =
+    so _ _ c.settle.result
+    (λ r ends.
+    let left = ap (drop c.in_ok-self-inside.field-0) (sym c.deref.ensures.value) ∙ sym (interval c r ends).leaves in
+    λ i. record { script = (c.self.view_is i).script; left = left i; current = (c.self.view_is i).current; capacity = (c.self.view_is i).capacity })
+    c.settle.ensures
