@@ -1,46 +1,43 @@
 -- What tasks leave together beside a store, and the store that is settled from it.
-use Rattle.std.proofs.Common.{◌≡◌, ◌≢◌, ◌⊎◌, inl, inr, ⊎_elim, ℕ, zero, suc, ◌<◌, ◌≤◌, Bool, true, false, if◌then◌else◌, ◌+◌, ℤ, pos, List, [], ◌∷◌, length, map, drop, slice_index_or, Option, None, Some, refl, sym, ap, subst, ◌∙◌, arith}
+use Rattle.std.proofs.Common.{◌≡◌, ◌≢◌, ◌⊎◌, inl, inr, ⊎_elim, ℕ, zero, suc, ◌<◌, ◌≤◌, nat_lt, Bool, true, false, if◌then◌else◌, ◌+◌, ℤ, pos, List, [], ◌∷◌, length, map, drop, get_or, set, slice_index_or, Option, None, Some, refl, sym, ap, subst, ◌∙◌, arith}
 use Rattle.std.specs.Prelude.{Contains}
 use Rattle.std.specs.Option.{unwrap_or}
 use Rattle.std.specs.Ordering.{int_eq}
+use Rattle.std.proofs.lemmas.Bool.Decides.{nat_tests}
 use Rattle.std.proofs.lemmas.Cmp.{int_eq_equiv}
 use Rattle.std.proofs.lemmas.List.{length-set, get_or_past, get_or-set_same, get_or-set_other, at_drop_more}
 use Rattle.nona_num.specs.declared.folds.Fold.{Fold}
 use Rattle.nona_num.specs.Folds.{join_of}
-use Rattle.nona_store.specs.Overlays.{HasCells, over_of, under, unwritten, changed_or, with_changes}
+use Rattle.nona_store.specs.Overlays.{over_of, under, changes_of}
 use Rattle.nona_store.proofs.Overlaying.{covered, as_long, as_many}
 use Rattle.nona_tree.specs.Memory.{Memory, scalar_at, cells_of, cell_at, assign}
 use Rattle.net_share.specs.Begins.{AreThere, AreApart}
-use Rattle.net_share.specs.Gathered.{views_of, all_changes, own_scalar, joined_with, with_joined, gathered}
+use Rattle.net_share.specs.Gathered.{views_of, AreLeft, with_written, with_changes, own_scalar, joined_with, with_joined, gathered}
 use Rattle.net_share.specs.Settled.{settled_cell, joined_all, IsSettledFrom}
 use Rattle.net_share.specs.Tasks.{TaskView}
 
 -- cells
 
--- a written value is one of the new ones or one of those before
-from_test : (b : Bool) (x : ℤ) (other : Option ℤ) (v : ℤ) → (if b then other else Some x) ≡ Some v → (Some x ≡ Some v) ⊎ (other ≡ Some v)
-from_test true x other v is = inr is
-from_test false x other v is = inl is
+-- as many scalars, printed numbers, arrays and cells stand under what tasks have changed
+changes_scalars : (was m : Memory) (tasks : List TaskView) → (with_changes was tasks m).scalars ≡ m.scalars
+changes_scalars was m [] = refl
+changes_scalars was m (x ∷ rest) = changes_scalars was (under (changes_of was (over_of x.share.written)) m) rest
 
-changed_from : (was : ℤ) (o other : Option ℤ) (v : ℤ) → changed_or was o other ≡ Some v → (o ≡ Some v) ⊎ (other ≡ Some v)
-changed_from was None other v is = inr is
-changed_from was (Some x) other v is = from_test (int_eq x was) x other v is
+changes_printed : (was m : Memory) (tasks : List TaskView) → (with_changes was tasks m).printed ≡ m.printed
+changes_printed was m [] = refl
+changes_printed was m (x ∷ rest) = changes_printed was (under (changes_of was (over_of x.share.written)) m) rest
 
--- cells of a store that are changed are ones of the store
-pub changes_within : (m : Memory) (written over : ℕ → ℕ → Option ℤ) → HasCells m written → HasCells m over → HasCells m (with_changes m written over)
-changes_within m written over own before a p v is =
-    ⊎_elim (λ (new : written a p ≡ Some v). own a p v new) (λ (old : over a p ≡ Some v). before a p v old) (changed_from (cell_at m a p) (written a p) (over a p) v is)
+changes_many : (was m : Memory) (tasks : List TaskView) → length (with_changes was tasks m).arrays ≡ length m.arrays
+changes_many was m [] = refl
+changes_many was m (x ∷ rest) =
+    let over = changes_of was (over_of x.share.written) in
+    changes_many was (under over m) rest ∙ as_many over 0 m.arrays
 
--- with the changes of one more task
-pub changes_on : (m : Memory) (tasks : List TaskView) (i : ℕ) (x : TaskView) (over : ℕ → ℕ → Option ℤ) → i < length tasks → slice_index_or tasks i x ≡ x
-    → all_changes m (drop i tasks) over ≡ all_changes m (drop (i + 1) tasks) (with_changes m (over_of x.share.written) over)
-changes_on m tasks i x over below is =
-    at_drop_more (λ (xs : List TaskView). all_changes m xs over) tasks i x below
-    ∙ ap (λ (y : TaskView). all_changes m (drop (i + 1) tasks) (with_changes m (over_of y.share.written) over)) is
-
--- where no cell is written, each written cell is one of the store
-pub none_within : (m : Memory) → HasCells m (over_of unwritten)
-none_within m a p v is = absurd (cc)
+changes_long : (was m : Memory) (tasks : List TaskView) (a : ℕ) → length (cells_of (with_changes was tasks m) a) ≡ length (cells_of m a)
+changes_long was m [] a = refl
+changes_long was m (x ∷ rest) a =
+    let over = changes_of was (over_of x.share.written) in
+    changes_long was (under over m) rest a ∙ as_long m over a
 
 -- a number ties with itself
 ties_itself : (v : ℤ) → int_eq v v ≡ true
@@ -51,27 +48,38 @@ same_either true v = refl
 same_either false v = refl
 
 -- what a cell is with one more task's change
-picked : (b : Bool) (v was : ℤ) (other : Option ℤ) → unwrap_or (if b then other else Some v) was ≡ (if b then unwrap_or other was else v)
-picked true v was other = refl
-picked false v was other = refl
+picked : (b : Bool) (v now : ℤ) → unwrap_or (if b then None else Some v) now ≡ (if b then now else v)
+picked true v now = refl
+picked false v now = refl
 
-one_change : (was : ℤ) (o other : Option ℤ)
-    → unwrap_or (changed_or was o other) was ≡ (if int_eq (unwrap_or o was) was then unwrap_or other was else unwrap_or o was)
-one_change was None other = ap (λ (b : Bool). if b then unwrap_or other was else was) (sym (ties_itself was))
-one_change was (Some v) other = picked (int_eq v was) v was other
+is_below : (p n : ℕ) → p < n → nat_lt p n ≡ true
+is_below p n below = grind (arith, below, nat_tests)
+
+one_change : (m : Memory) (a p : ℕ) (now : ℤ) (o : Option ℤ) → p < length (cells_of m a)
+    → unwrap_or (changes_of m (λ b q. o) a p) now ≡ (if int_eq (unwrap_or o (cell_at m a p)) (cell_at m a p) then now else unwrap_or o (cell_at m a p))
+one_change m a p now None within =
+    let was = cell_at m a p in
+    ap (λ (b : Bool). unwrap_or (if b then None else None) now) (is_below p (length (cells_of m a)) within)
+    ∙ ap (λ (b : Bool). if b then now else was) (sym (ties_itself was))
+one_change m a p now (Some v) within =
+    let was = cell_at m a p in
+    ap (λ (b : Bool). unwrap_or (if b then if int_eq v was then None else Some v else Some v) now) (is_below p (length (cells_of m a)) within)
+    ∙ picked (int_eq v was) v now
 
 -- a cell of the store that tasks have changed one after another is the last value that isn't what it was
-changed_cell : (m : Memory) (tasks : List TaskView) (over : ℕ → ℕ → Option ℤ) (a p : ℕ) → p < length (cells_of m a)
-    → unwrap_or (all_changes m tasks over a p) (cell_at m a p)
-    ≡ settled_cell (cell_at m a p) (unwrap_or (over a p) (cell_at m a p)) (map (λ (v : Memory). cell_at v a p) (views_of m tasks))
-changed_cell m [] over a p within = refl
-changed_cell m (x ∷ rest) over a p within =
-    let was = cell_at m a p in
+changed_cell : (was m : Memory) (tasks : List TaskView) (a p : ℕ) → p < length (cells_of was a) → p < length (cells_of m a)
+    → cell_at (with_changes was tasks m) a p ≡ settled_cell (cell_at was a p) (cell_at m a p) (map (λ (v : Memory). cell_at v a p) (views_of was tasks))
+changed_cell was m [] a p within inside = refl
+changed_cell was m (x ∷ rest) a p within inside =
+    let cell = cell_at was a p in
+    let now = cell_at m a p in
     let written = over_of x.share.written in
-    changed_cell m rest (with_changes m written over) a p within
-    ∙ ap (λ (now : ℤ). settled_cell was now (map (λ (v : Memory). cell_at v a p) (views_of m rest)))
-    (one_change was (written a p) (over a p)
-    ∙ ap (λ (v : ℤ). if int_eq v was then unwrap_or (over a p) was else v) (sym (covered m written a p within)))
+    let over = changes_of was written in
+    changed_cell was (under over m) rest a p within (subst (λ n. p < n) (sym (as_long m over a)) inside)
+    ∙ ap (λ (n : ℤ). settled_cell cell n (map (λ (v : Memory). cell_at v a p) (views_of was rest)))
+    (covered m over a p inside
+    ∙ one_change was a p now (written a p) within
+    ∙ ap (λ (v : ℤ). if int_eq v cell then now else v) (sym (covered was written a p within)))
 
 -- a place outside an array is as it was, under any overlay
 outside : (m : Memory) (over : ℕ → ℕ → Option ℤ) (a p : ℕ) → length (cells_of m a) ≤ p → cell_at (under over m) a p ≡ cell_at m a p
@@ -95,13 +103,13 @@ below_or_past zero (suc n) = inl (omega arith)
 below_or_past (suc p) (suc n) = ⊎_elim (λ (h : p < n). inl (omega (arith, h))) (λ (h : n ≤ p). inr (omega (arith, h))) (below_or_past p n)
 
 cells_settled : (m : Memory) (tasks : List TaskView) (a p : ℕ)
-    → cell_at (under (all_changes m tasks (over_of unwritten)) m) a p
-    ≡ settled_cell (cell_at m a p) (cell_at m a p) (map (λ (v : Memory). cell_at v a p) (views_of m tasks))
+    → cell_at (with_changes m tasks m) a p ≡ settled_cell (cell_at m a p) (cell_at m a p) (map (λ (v : Memory). cell_at v a p) (views_of m tasks))
 cells_settled m tasks a p =
-    let over = all_changes m tasks (over_of unwritten) in
     ⊎_elim
-    (λ (within : p < length (cells_of m a)). covered m over a p within ∙ changed_cell m tasks (over_of unwritten) a p within)
-    (λ (past : length (cells_of m a) ≤ p). outside m over a p past ∙ sym (outside_stays m tasks a p past))
+    (λ (within : p < length (cells_of m a)). changed_cell m m tasks a p within within)
+    (λ (past : length (cells_of m a) ≤ p).
+    get_or_past (cells_of (with_changes m tasks m) a) p (pos 0) (subst (λ n. n ≤ p) (sym (changes_long m m tasks a)) past)
+    ∙ sym (get_or_past (cells_of m a) p (pos 0) past) ∙ sym (outside_stays m tasks a p past))
     (below_or_past p (length (cells_of m a)))
 
 -- scalars
@@ -169,15 +177,90 @@ joined_seen id f now m (x ∷ rest) = joined_seen id f (join_of f now (own_scala
 pub gathered_settles : (rs : List (ℕ × Fold)) (tasks : List TaskView) (m : Memory) → AreApart rs → AreThere rs m.scalars
     → IsSettledFrom m rs (views_of m tasks) (gathered rs tasks m)
 gathered_settles rs tasks m apart there =
-    let over = all_changes m tasks (over_of unwritten) in
-    let base = under over m in
+    let base = with_changes m tasks m in
+    let scalars : base.scalars ≡ m.scalars = changes_scalars m m tasks in
     let arrays = joined_arrays rs tasks base in
     record {
-      depth = joined_depth rs tasks base;
-      scalars = λ id below others. joined_other rs tasks base id others;
-      reduced = λ id f has. joined_there rs tasks base apart there has.0 id f has.1 has.2 ∙ joined_seen id f (scalar_at m id) m tasks;
-      arrays = ap (λ (xs : List (List ℤ)). length xs) arrays ∙ as_many over 0 m.arrays;
-      sizes = λ array. ap (λ (xs : List (List ℤ)). length (slice_index_or xs array [])) arrays ∙ as_long m over array;
+      depth = joined_depth rs tasks base ∙ ap (λ (xs : List ℤ). length xs) scalars;
+      scalars = λ id below others. joined_other rs tasks base id others ∙ ap (λ (xs : List ℤ). slice_index_or xs id (pos 0)) scalars;
+      reduced = λ id f has.
+          joined_there rs tasks base apart (subst (AreThere rs) (sym scalars) there) has.0 id f has.1 has.2
+          ∙ ap (λ (xs : List ℤ). joined_with id f (slice_index_or xs id (pos 0)) tasks) scalars
+          ∙ joined_seen id f (scalar_at m id) m tasks;
+      arrays = ap (λ (xs : List (List ℤ)). length xs) arrays ∙ changes_many m m tasks;
+      sizes = λ array. ap (λ (xs : List (List ℤ)). length (slice_index_or xs array [])) arrays ∙ changes_long m m tasks array;
       cells = λ array place. ap (λ (xs : List (List ℤ)). slice_index_or (slice_index_or xs array []) place (pos 0)) arrays ∙ cells_settled m tasks array place;
-      printed = joined_printed rs tasks base;
+      printed = joined_printed rs tasks base ∙ changes_printed m m tasks;
     }
+
+-- what tasks have written, once the store's own values are forgotten
+
+-- so many of the first tasks have only what isn't in the store already, and the others are as they were
+abbrev pub AreLeftBelow : ℕ → Memory → List TaskView → List TaskView → Type 0
+AreLeftBelow zero m xs ys = xs ≡ ys
+AreLeftBelow (suc n) m [] [] = Unit {0}
+AreLeftBelow (suc n) m [] (y ∷ ys) = ⊥
+AreLeftBelow (suc n) m (x ∷ xs) [] = ⊥
+AreLeftBelow (suc n) m (x ∷ xs) (y ∷ ys) =
+    (y.share.scalars ≡ x.share.scalars) × (over_of y.share.written ≡ changes_of m (over_of x.share.written)) × AreLeftBelow n m xs ys
+
+-- with one more
+next_left : (n : ℕ) (m : Memory) (xs ys : List TaskView) (x y : TaskView) → n < length ys → get_or ys n x ≡ x → y.share.scalars ≡ x.share.scalars
+    → over_of y.share.written ≡ changes_of m (over_of x.share.written) → AreLeftBelow n m xs ys → AreLeftBelow (suc n) m xs (set ys n y)
+next_left n m xs [] x y below is same written h = absurd (omega (arith, below))
+next_left zero m xs (z ∷ ys) x y below is same written h =
+    subst (λ (zs : List TaskView). AreLeftBelow 1 m zs (y ∷ ys)) (sym h)
+    ((same ∙ ap (λ (t : TaskView). t.share.scalars) (sym is), written ∙ ap (λ (t : TaskView). changes_of m (over_of t.share.written)) (sym is), refl))
+next_left (suc n) m [] (z ∷ ys) x y below is same written h = absurd h
+next_left (suc n) m (w ∷ xs) (z ∷ ys) x y below is same written h =
+    (h.0, h.1, next_left n m xs ys x y (omega (arith, below)) is same written h.2)
+
+pub left_on : (n : ℕ) (m : Memory) (xs ys : List TaskView) (x y : TaskView) → n < length ys → get_or ys n x ≡ x → y.share.scalars ≡ x.share.scalars
+    → over_of y.share.written ≡ changes_of m (over_of x.share.written) → AreLeftBelow n m xs ys → AreLeftBelow (n + 1) m xs (set ys n y)
+left_on n m xs ys x y below is same written h =
+    subst (λ (k : ℕ). AreLeftBelow k m xs (set ys n y)) (let e : suc n ≡ n + 1 = omega arith in e) (next_left n m xs ys x y below is same written h)
+
+-- and all of them
+pub all_left : (n : ℕ) (m : Memory) (xs ys : List TaskView) → length ys ≤ n → AreLeftBelow n m xs ys → AreLeft m xs ys
+all_left zero m [] [] past h = tt
+all_left zero m (x ∷ xs) [] past h = absurd (cc)
+all_left zero m xs (y ∷ ys) past h = absurd (omega (arith, past))
+all_left (suc n) m [] [] past h = tt
+all_left (suc n) m [] (y ∷ ys) past h = absurd h
+all_left (suc n) m (x ∷ xs) [] past h = absurd h
+all_left (suc n) m (x ∷ xs) (y ∷ ys) past h = (h.0, h.1, all_left n m xs ys (omega (arith, past)) h.2)
+
+-- what is left, written into a store, is what the tasks have changed
+left_written : (was m : Memory) (tasks left : List TaskView) → AreLeft was tasks left → with_written left m ≡ with_changes was tasks m
+left_written was m [] [] h = refl
+left_written was m [] (y ∷ ys) h = absurd h
+left_written was m (x ∷ xs) [] h = absurd h
+left_written was m (x ∷ xs) (y ∷ ys) h =
+    left_written was (under (over_of y.share.written) m) xs ys h.2
+    ∙ ap (λ (over : ℕ → ℕ → Option ℤ). with_changes was xs (under over m)) h.1
+
+-- and their scalars are joined as before
+left_joined : (was : Memory) (id : ℕ) (f : Fold) (now : ℤ) (tasks left : List TaskView) → AreLeft was tasks left → joined_with id f now left ≡ joined_with id f now tasks
+left_joined was id f now [] [] h = refl
+left_joined was id f now [] (y ∷ ys) h = absurd h
+left_joined was id f now (x ∷ xs) [] h = absurd h
+left_joined was id f now (x ∷ xs) (y ∷ ys) h =
+    left_joined was id f (join_of f now (own_scalar id y)) xs ys h.2
+    ∙ ap (λ (vs : List ℤ). joined_with id f (join_of f now (slice_index_or vs id (pos 0))) xs) h.0
+
+left_joins : (was m : Memory) (rs : List (ℕ × Fold)) (tasks left : List TaskView) → AreLeft was tasks left → with_joined rs left m ≡ with_joined rs tasks m
+left_joins was m [] tasks left h = refl
+left_joins was m (r ∷ rest) tasks left h =
+    left_joins was (assign r.0 (joined_with r.0 r.1 (scalar_at m r.0) left) m) rest tasks left h
+    ∙ ap (λ (v : ℤ). with_joined rest tasks (assign r.0 v m)) (left_joined was r.0 r.1 (scalar_at m r.0) tasks left h)
+
+-- so the scalar of each reduction is still there, and the store is gathered
+pub still_there : (rs : List (ℕ × Fold)) (m : Memory) (tasks left : List TaskView) → AreLeft m tasks left → AreThere rs m.scalars
+    → AreThere rs (with_written left m).scalars
+still_there rs m tasks left h there =
+    subst (AreThere rs) (sym (ap (λ (s : Memory). s.scalars) (left_written m m tasks left h) ∙ changes_scalars m m tasks)) there
+
+pub left_gathered : (rs : List (ℕ × Fold)) (m : Memory) (tasks left : List TaskView) → AreLeft m tasks left
+    → with_joined rs left (with_written left m) ≡ gathered rs tasks m
+left_gathered rs m tasks left h =
+    ap (with_joined rs left) (left_written m m tasks left h) ∙ left_joins m (with_changes m tasks m) rs tasks left h

@@ -9,7 +9,6 @@ use Rattle.net_flow.specs.Machines.{Machine, is_over, over_from}
 use Rattle.net_flow.specs.Net.{net_machine, moves_of, Work, Task, Net, task_at, waits_at, moved_at, waited, step, is_finished}
 use Rattle.net_flow.specs.Sharing.{LawfulSharing, IsSharedNet}
 use Rattle.net_flow.proofs.SharingMachine.{sharing_keeps, sharing_moved}
-use Rattle.nona_store.specs.Overlays.{HasCells, over_of}
 use Rattle.net_share.specs.declared.iterations.Iterations.{Iterations}
 use Rattle.net_share.specs.declared.sharing.Sharing.{Sharing}
 use Rattle.net_share.specs.declared.task.Position.{Position as Place}
@@ -54,7 +53,6 @@ module _ (old new : Sharing) (here : IsSharing old) (s : Stays old new) where
   pub stands : IsSharedNet (work_of old) no_meaning old.iterations.limit (length old.tasks.items) (net_of new) → IsSharing new
   stands net = record {
     room = subst (λ (i : Iterations). All (λ (x : TaskView). i.units.now.room ≤ x.room) new.tasks.items) (sym s.iterations) s.room;
-    cells = subst (λ (m : Memory). All (λ (x : TaskView). HasCells m (over_of x.share.written)) new.tasks.items) (sym s.store) s.cells;
     fits = subst (λ (i : Iterations). (k : ℕ) → k < i.limit → FitsSigned w64 (i.from +ℤ pos k)) (sym s.iterations) here.fits;
     few =
         subst (λ (c : ℕ). new.iterations.limit * (1 + length new.iterations.units.now.body) + (1 + c) < 2 ^ 64) (sym s.count)

@@ -4,7 +4,6 @@ ghost use Rattle.std.specs.Prelude.{◌≡◌, ◌<◌, ◌≤◌, length, map, 
 ghost use Rattle.nona_num.specs.Folds.{unit_of};
 ghost use Rattle.net_flow.specs.Begun.{first_of, workers_of};
 ghost use Rattle.nona_parts.specs.Sharing.{with_units};
-ghost use Rattle.nona_store.specs.Overlays.{HasCells, over_of};
 ghost use Rattle.net_share.specs.Begins.{AreThere};
 ghost use Rattle.net_share.specs.Tasks.{TaskView, task_over};
 
@@ -49,7 +48,6 @@ fn first_task(
     requires { AreThere reductions.now store.now.scalars }
     ensures task { IfOk result (λ task. task_over store.now task ≡ first_of (λ s w. with_units reductions.now store.now) 0 number) }
     ensures room { IfOk result (λ task. units.now.room ≤ task.room) }
-    ensures cells { IfOk result (λ task. HasCells store.now (over_of task.share.written)) }
 {
     let scalars = first_scalars(alloc, store, reductions)?;
     let task = Task::begin(alloc, number, units, scalars)?;
@@ -68,7 +66,6 @@ pub(crate) fn first_tasks(
     requires { AreThere reductions.now store.now.scalars }
     ensures tasks { IfOk result (λ tasks. map (task_over store.now) tasks.items ≡ workers_of (λ s w. with_units reductions.now store.now) 0 workers) }
     ensures room { IfOk result (λ tasks. All (λ (x : TaskView). units.now.room ≤ x.room) tasks.items) }
-    ensures cells { IfOk result (λ tasks. All (λ (x : TaskView). HasCells store.now (over_of x.share.written)) tasks.items) }
 {
     let mut tasks = Vec::new(alloc);
     'tasks: for number in 0..workers {

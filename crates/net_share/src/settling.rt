@@ -1,29 +1,31 @@
 //! The store behind the iterations of tasks that have finished.
 
-ghost use Rattle.std.specs.Prelude.{◌≡◌, ◌<◌, length, All, IfOk};
-ghost use Rattle.nona_store.specs.Overlays.{HasCells, over_of, under, unwritten};
-ghost use Rattle.nona_tree.specs.Memory.{Memory, assign, scalar_at};
+ghost use Rattle.std.specs.Prelude.{◌≡◌, ◌<◌, length};
+ghost use Rattle.nona_tree.specs.Memory.{assign, scalar_at};
 ghost use Rattle.net_share.specs.Begins.{AreThere};
-ghost use Rattle.net_share.specs.Gathered.{all_changes, gathered, joined_with, with_joined};
-ghost use Rattle.net_share.specs.Tasks.{TaskView};
+ghost use Rattle.net_share.specs.Gathered.{AreLeft, gathered, joined_with, with_joined, with_written};
 
 use crate::task::Task;
 use nona_num::Fold;
-use nona_store::{Overlay, Store};
-use std::alloc::{AllocError, Global};
+use nona_store::Store;
 
-/// The cells of a store that tasks have changed, with the values that they have given them.
-#[tactic(auto, using(crate::proofs::Gathering::none_within))]
-fn changes(alloc: Global, store: &Store, tasks: &[Task]) -> Result<Overlay, AllocError>
-    requires { All (λ (x : TaskView). HasCells store.now (over_of x.share.written)) tasks.now }
-    ensures changes { IfOk result (λ changes. over_of changes ≡ all_changes store.now tasks.now (over_of unwritten)) }
-    ensures cells { IfOk result (λ changes. HasCells store.now (over_of changes)) }
+/// Forgets what tasks have written and the store has already. Nothing else of them changes.
+#[tactic(auto, using(crate::proofs::Gathering::left_on, crate::proofs::Gathering::all_left))]
+fn keep_changes(store: &Store, tasks: &mut Vec<Task>)
+    ensures { AreLeft store.now tasks.old.items tasks.new.items }
 {
-    let mut changes = Overlay::begin(alloc);
-    'tasks: for task in tasks {
-        changes.put_changes(task.overlay(), store)?;
+    'tasks: for number in 0..tasks.len() {
+        tasks[number].keep_changes(store);
     }
-    Ok(changes)
+}
+
+/// Writes into a store what each of these tasks has written, one task after another.
+fn apply_all(store: &mut Store, tasks: &[Task])
+    ensures { store.new ≡ with_written tasks.now store.old }
+{
+    'tasks: for task in tasks {
+        store.apply(task.overlay());
+    }
 }
 
 /// A number joined with the values that tasks have of the scalar with this id.
@@ -56,21 +58,17 @@ fn join_reductions(store: &mut Store, reductions: &[(u32, Fold)], tasks: &[Task]
     }
 }
 
-/// The store with each cell that tasks have changed and each reduction joined. Takes a time in proportion to the written cells of
-/// the tasks and to the reductions of each.
-pub(crate) fn settled(
-    alloc: Global,
-    store: Store,
-    tasks: &[Task],
-    reductions: &[(u32, Fold)],
-) -> Result<Store, AllocError>
-    requires cells { All (λ (x : TaskView). HasCells store (over_of x.share.written)) tasks.now }
-    requires there { AreThere reductions.now store.scalars }
-    ensures { IfOk result (λ m. m ≡ gathered reductions.now tasks.now store) }
+/// The store with each cell that tasks have changed and each reduction joined. Takes no memory, and a time in proportion to the
+/// places of the pages in which tasks have written, and to the reductions of each task.
+#[tactic(auto, using(crate::proofs::Gathering::still_there, crate::proofs::Gathering::left_gathered))]
+pub(crate) fn settled(store: Store, tasks: Vec<Task>, reductions: &[(u32, Fold)]) -> Store
+    requires { AreThere reductions.now store.scalars }
+    ensures { result ≡ gathered reductions.now tasks.items store }
 {
     let mut store = store;
-    let changes = changes(alloc, &store, tasks)?;
-    store.apply(&changes);
-    join_reductions(&mut store, reductions, tasks);
-    Ok(store)
+    let mut tasks = tasks;
+    keep_changes(&store, &mut tasks);
+    apply_all(&mut store, tasks.as_slice());
+    join_reductions(&mut store, reductions, tasks.as_slice());
+    store
 }

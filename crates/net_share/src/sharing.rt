@@ -230,18 +230,15 @@ impl<'a> Sharing<'a> {
 
     /// The store behind the iterations, once all tasks have finished: each cell that a task has changed has that value, each
     /// reduction is joined with what the tasks have made of it, and all else is as it was. It is the store of the interval's start
-    /// that is changed; no array is copied. An error comes where memory runs out.
+    /// that is changed; no array is copied, and no memory is taken.
     ///
     /// The scalar of each reduction is there, and none has two.
-    #[tactic(auto, using(crate::proofs::Gathering::gathered_settles))]
-    pub fn settle(self, reductions: &[(u32, Fold)]) -> Result<Store, AllocError>
-        requires sound { IsSharing self }
+    pub fn settle(self, reductions: &[(u32, Fold)]) -> Store
         requires over { is_over (net_machine (work_of self)) (net_of self) ≡ true }
         requires there { AreThere reductions.now (store_of self).scalars }
         requires apart { AreApart reductions.now }
-        ensures { IfOk result (λ m. IsSettledFrom (store_of self.entry) reductions.now (views_of (store_of self.entry) self.entry.tasks.items) m) }
+        ensures { IsSettledFrom (store_of self.entry) reductions.now (views_of (store_of self.entry) self.entry.tasks.items) result }
     {
-        let alloc = *self.tasks.allocator();
-        settled(alloc, self.store, self.tasks.as_slice(), reductions)
+        settled(self.store, self.tasks, reductions)
     }
 }

@@ -2,7 +2,7 @@
 
 ghost use Rattle.std.specs.Prelude.{◌≡◌, ◌<◌, ◌+◌, ◌≤◌, ◌^◌, ◌+ℤ◌, ℕ, pos, drop, length, FitsSigned, IfOk, OnOk};
 ghost use Rattle.std.specs.Int.{w64};
-ghost use Rattle.nona_store.specs.Overlays.{HasCells, over_of};
+ghost use Rattle.nona_store.specs.Overlays.{changes_of, over_of};
 ghost use Rattle.nona_store.specs.Shares.{shared};
 ghost use Rattle.nona_tree.specs.Memory.{Memory, cut_to, declare};
 ghost use Rattle.net_share.specs.May.{MayRunFirst};
@@ -71,10 +71,8 @@ fn run_on(
     requires there { at < length units.now.body }
     requires room { units.now.room ≤ frame.old.room }
     requires may { MayRunFirst (drop at units.now.body) turns (shared store.now share.old) }
-    requires cells { HasCells store.now (over_of share.old.written) }
     ensures run { OnOk result (shared store.now share.new ≡ (run_first (drop at units.now.body) turns (shared store.now share.old)).store) }
     ensures room { frame.new.room ≡ frame.old.room }
-    ensures cells { OnOk result (HasCells store.now (over_of share.new.written)) }
 {
     let mut bank = ShareBank::over(store, share.take());
     let end = frame.unit(units.code(at), &mut bank, turns);
@@ -88,9 +86,7 @@ fn run_on(
 
 /// Declares a scalar in a task's share of a store.
 fn declare_on(value: i64, store: &Store, share: &mut Share) -> Result<(), AllocError>
-    requires { HasCells store.now (over_of share.old.written) }
-    ensures share { OnOk result (shared store.now share.new ≡ declare value (shared store.now share.old)) }
-    ensures cells { OnOk result (HasCells store.now (over_of share.new.written)) }
+    ensures { OnOk result (shared store.now share.new ≡ declare value (shared store.now share.old)) }
 {
     let mut bank = ShareBank::over(store, share.take());
     let pushed = bank.push_scalar(value);
@@ -100,9 +96,7 @@ fn declare_on(value: i64, store: &Store, share: &mut Share) -> Result<(), AllocE
 
 /// The scalars of a task's share behind the first `depth` go.
 fn leave_on(depth: usize, store: &Store, share: &mut Share)
-    requires { HasCells store.now (over_of share.old.written) }
-    ensures share { shared store.now share.new ≡ cut_to depth (shared store.now share.old) }
-    ensures cells { HasCells store.now (over_of share.new.written) }
+    ensures { shared store.now share.new ≡ cut_to depth (shared store.now share.old) }
 {
     let behind = share.scalars().len().saturating_sub(depth);
     let mut bank = ShareBank::over(store, share.take());
@@ -136,6 +130,14 @@ impl Task {
         })
     }
 
+    /// Forgets each cell that it has written with the value that the store has there. Nothing else of the share changes.
+    pub(crate) fn keep_changes(&mut self, store: &Store)
+        ensures scalars { self.new.share.scalars ≡ self.old.share.scalars }
+        ensures written { over_of self.new.share.written ≡ changes_of store.now (over_of self.old.share.written) }
+    {
+        self.share.keep_changes(store);
+    }
+
     /// The cells that it has written.
     pub(crate) fn overlay(&self) -> &Overlay
         ensures { result.now ≡ self.now.share.written }
@@ -166,12 +168,10 @@ impl Task {
 
     /// Leaves its iteration: the scalars in it go.
     fn leave(&mut self, depth: usize, store: &Store)
-        requires done { self.old.done + 1 < 2 ^ 64 }
-        requires cells { HasCells store.now (over_of self.old.share.written) }
+        requires { self.old.done + 1 < 2 ^ 64 }
         ensures task { (i : Iterations) → task_over store.now self.new ≡ leaves (task_work (doing i depth)) (task_over store.now self.old) }
         ensures room { self.new.room ≡ self.old.room }
         ensures moves { self.new.moves ≡ self.old.moves }
-        ensures cells { HasCells store.now (over_of self.new.share.written) }
     {
         leave_on(depth, store, &mut self.share);
         self.done += 1;
@@ -180,12 +180,10 @@ impl Task {
 
     /// Comes before the unit of its iteration with this number, or behind the last one.
     fn arrive(&mut self, unit: usize, iterations: &Iterations, depth: usize, store: &Store)
-        requires done { self.old.done + 1 < 2 ^ 64 }
-        requires cells { HasCells store.now (over_of self.old.share.written) }
+        requires { self.old.done + 1 < 2 ^ 64 }
         ensures task { task_over store.now self.new ≡ arrives (task_work (doing iterations.now depth)) unit (task_over store.now self.old) }
         ensures room { self.new.room ≡ self.old.room }
         ensures moves { self.new.moves ≡ self.old.moves }
-        ensures cells { HasCells store.now (over_of self.new.share.written) }
     {
         if unit < iterations.units.count() {
             self.position = Position::Unit(unit);
@@ -204,12 +202,10 @@ impl Task {
     ) -> Result<(), AllocError>
         requires done { self.old.done + 1 < 2 ^ 64 }
         requires fits { FitsSigned w64 (iterations.now.from +ℤ pos number) }
-        requires cells { HasCells store.now (over_of self.old.share.written) }
         ensures task { OnOk result (task_over store.now self.new
             ≡ enters (task_work (doing iterations.now depth)) number tt (task_over store.now self.old)) }
         ensures room { OnOk result (self.new.room ≡ self.old.room) }
         ensures moves { OnOk result (self.new.moves ≡ self.old.moves) }
-        ensures cells { OnOk result (HasCells store.now (over_of self.new.share.written)) }
     {
         let index = offset(iterations.from, number);
         declare_on(index, store, &mut self.share)?;
@@ -228,11 +224,9 @@ impl Task {
     ) -> Result<(), AllocError>
         requires counts { CanCount iterations.now.units.now self.old }
         requires fits { FitsSigned w64 (iterations.now.from +ℤ pos number) }
-        requires cells { HasCells store.now (over_of self.old.share.written) }
         ensures task { OnOk result (task_over store.now self.new
             ≡ counted (enters (task_work (doing iterations.now depth)) number tt (task_over store.now self.old))) }
         ensures room { OnOk result (self.new.room ≡ self.old.room) }
-        ensures cells { OnOk result (HasCells store.now (over_of self.new.share.written)) }
     {
         self.enter(number, iterations, depth, store)?;
         self.moves += 1;
@@ -251,12 +245,10 @@ impl Task {
         requires room { iterations.now.units.now.room ≤ self.old.room }
         requires done { self.old.done + 1 < 2 ^ 64 }
         requires may { MayRunFirst (drop unit iterations.now.units.now.body) iterations.now.turns (shared store.now self.old.share) }
-        requires cells { HasCells store.now (over_of self.old.share.written) }
         ensures task { OnOk result (task_over store.now self.new
             ≡ unit_done (task_work (doing iterations.now depth)) unit (task_over store.now self.old)) }
         ensures room { OnOk result (self.new.room ≡ self.old.room) }
         ensures moves { OnOk result (self.new.moves ≡ self.old.moves) }
-        ensures cells { OnOk result (HasCells store.now (over_of self.new.share.written)) }
     {
         let _count = iterations.units.count();
         run_on(
@@ -282,11 +274,9 @@ impl Task {
         requires there { unit < length iterations.now.units.now.body }
         requires counts { CanCount iterations.now.units.now self.old }
         requires may { MayRunFirst (drop unit iterations.now.units.now.body) iterations.now.turns (shared store.now self.old.share) }
-        requires cells { HasCells store.now (over_of self.old.share.written) }
         ensures task { OnOk result (task_over store.now self.new
             ≡ counted (unit_done (task_work (doing iterations.now depth)) unit (task_over store.now self.old))) }
         ensures room { OnOk result (self.new.room ≡ self.old.room) }
-        ensures cells { OnOk result (HasCells store.now (over_of self.new.share.written)) }
     {
         self.do_unit(unit, iterations, depth, store)?;
         self.moves += 1;

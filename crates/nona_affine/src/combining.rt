@@ -2,7 +2,7 @@
 
 ghost use Rattle.std.specs.Prelude.{◌≡◌, List, [], ◌∷◌, ◌++◌, None, Some, if◌then◌else◌, negsuc, IfOk};
 ghost use Rattle.nona_forms.specs.Affine.{Affine, if_bounded, times_form, constant_form, scalar_form, among, form_by};
-ghost use Rattle.nona_affine.specs.Put.{IsPut};
+ghost use Rattle.nona_affine.specs.Put.{HasActed, IsPut};
 ghost use Rattle.nona_tree.specs.declared.trees.Op.TheVariants as op;
 
 use crate::names::{Ids, Names};
@@ -49,16 +49,14 @@ fn put(form: Option<Tally>, forms: &mut Vec<Tally>) -> Result<bool, AllocError>
 }
 
 /// Puts the form of a number behind others, if it has one.
-#[inline(never)]
-pub fn put_number(alloc: Global, number: i64, forms: &mut Vec<Tally>) -> Result<bool, AllocError>
+fn put_number(alloc: Global, number: i64, forms: &mut Vec<Tally>) -> Result<bool, AllocError>
     ensures { IfOk result (IsPut (if_bounded (constant_form number)) forms.old.items forms.new.items) }
 {
     put(Tally::of_number(alloc, number as i128), forms)
 }
 
 /// Takes the last form, and puts its opposite in its place.
-#[inline(never)]
-pub fn turn_last(forms: &mut Vec<Tally>) -> Result<bool, AllocError>
+fn turn_last(forms: &mut Vec<Tally>) -> Result<bool, AllocError>
     ensures { (before : List Affine) (f : Affine) → forms.old.items ≡ before ++ f ∷ []
         → IfOk result (IsPut (if_bounded (times_form (negsuc 0) f)) before forms.new.items) }
 {
@@ -69,8 +67,7 @@ pub fn turn_last(forms: &mut Vec<Tally>) -> Result<bool, AllocError>
 }
 
 /// Takes the last two forms, and puts what an operator makes of them in their place, where that is a form.
-#[inline(never)]
-pub fn combine_last(alloc: Global, op: Op, forms: &mut Vec<Tally>) -> Result<bool, AllocError>
+fn combine_last(alloc: Global, op: Op, forms: &mut Vec<Tally>) -> Result<bool, AllocError>
     ensures { (before : List Affine) (f g : Affine) → forms.old.items ≡ (before ++ f ∷ []) ++ g ∷ []
         → IfOk result (IsPut (form_by op f g) before forms.new.items) }
 {
@@ -107,8 +104,7 @@ fn scalar(alloc: Global, id: u32, inner: &Ids, names: &Names) -> Result<Option<T
 }
 
 /// Puts the form of a scalar behind others, if it may occur.
-#[inline(never)]
-pub fn put_scalar(
+fn put_scalar(
     alloc: Global,
     id: u32,
     inner: &Ids,
@@ -119,4 +115,37 @@ pub fn put_scalar(
 {
     let form = scalar(alloc, id, inner, names)?;
     put(form, forms)
+}
+
+/// What is done to forms that stand one behind another.
+#[derive(Clone, Copy)]
+pub enum Act {
+    /// The form of a number is put behind them, if it has one.
+    Number(i64),
+    /// The form of the scalar with this id is put behind them, if it may occur.
+    Scalar(u32),
+    /// The opposite of the last one is put in its place.
+    Turn,
+    /// What an operator makes of the last two is put in their place, where that is a form.
+    Combine(Op),
+}
+
+/// Does this to the forms. `false` says that there is no form. Whoever goes down an expression calls it at several places: so no compiler
+/// takes what it needs of the stack into each level.
+#[inline(never)]
+pub fn perform(
+    alloc: Global,
+    act: Act,
+    inner: &Ids,
+    names: &Names,
+    forms: &mut Vec<Tally>,
+) -> Result<bool, AllocError>
+    ensures { IfOk result (HasActed act (inner.now ++ names.now) forms.old.items forms.new.items) }
+{
+    match act {
+        Act::Number(number) => put_number(alloc, number, forms),
+        Act::Scalar(id) => put_scalar(alloc, id, inner, names, forms),
+        Act::Turn => turn_last(forms),
+        Act::Combine(op) => combine_last(alloc, op, forms),
+    }
 }

@@ -4,7 +4,7 @@ ghost use Rattle.std.specs.Prelude.{◌≡◌, ◌++◌, IfOk};
 ghost use Rattle.nona_forms.specs.Affine.{form_of};
 ghost use Rattle.nona_affine.specs.Put.{IsPut};
 
-use crate::combining::{combine_last, put_number, put_scalar, turn_last};
+use crate::combining::{Act, perform};
 use crate::names::{Ids, Names};
 use crate::tallies::Tally;
 use nona_forms::Form;
@@ -14,7 +14,7 @@ use std::alloc::{AllocError, Global};
 /// Puts the form of an expression behind others, if it has one; `false` says that it has none.
 ///
 /// An expression may be some 4,096 levels deep: 64 brackets with 64 operators in each. So a level takes little of the stack
-/// here: the forms of its parts stand in a list, and what is large is in functions of their own.
+/// here: the forms of its parts stand in a list, and what is large is in a function of its own.
 #[tactic(auto, using(crate::proofs::FormEquations::form_laws))]
 fn put_form(
     alloc: Global,
@@ -26,13 +26,13 @@ fn put_form(
     ensures { IfOk result (IsPut (form_of e.now (inner.now ++ names.now)) forms.old.items forms.new.items) }
 {
     match e {
-        Expr::Number(number) => put_number(alloc, *number, forms),
-        Expr::Scalar(x) => put_scalar(alloc, x.id, inner, names, forms),
+        Expr::Number(number) => perform(alloc, Act::Number(*number), inner, names, forms),
+        Expr::Scalar(x) => perform(alloc, Act::Scalar(x.id), inner, names, forms),
         Expr::Neg(part) => {
             if !put_form(alloc, part.get(), inner, names, forms)? {
                 return Ok(false);
             }
-            turn_last(forms)
+            perform(alloc, Act::Turn, inner, names, forms)
         }
         Expr::Binary {
             op,
@@ -46,7 +46,7 @@ fn put_form(
             if !put_form(alloc, right.get(), inner, names, forms)? {
                 return Ok(false);
             }
-            combine_last(alloc, *op, forms)
+            perform(alloc, Act::Combine(*op), inner, names, forms)
         }
         Expr::Cell(_) | Expr::Len(_) | Expr::Not(_) => Ok(false),
     }

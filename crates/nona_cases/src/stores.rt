@@ -1,6 +1,7 @@
 //! The store of a program.
 
 use crate::programs::checked_of;
+use nona_sparse::SparseArray;
 use nona_store::{Bank, Overlay, Share, ShareBank, Store, read_numbers};
 use std::alloc::{AllocError, Global};
 use std::process::Abort;
@@ -69,5 +70,56 @@ fn a_share_has_what_its_bank_was_given(rt: HostRuntime) -> Result<(), Fail> {
     assert_eq!(rt; share.scalars(), [9].as_slice());
     assert_eq!(rt; share.printed(), [-1].as_slice());
     assert_eq!(rt; share.overlay().get(0, 0), None);
+    Ok(())
+}
+
+#[test]
+fn a_sparse_array_has_what_was_last_put(rt: HostRuntime) -> Result<(), Fail> {
+    let alloc = rt.alloc();
+    let mut written = SparseArray::begin(alloc);
+    written.put(5, 7)?;
+    written.put(4_194_303, -1)?;
+    written.put(5, 8)?;
+    let values = [
+        written.get(5),
+        written.get(4_194_303),
+        written.get(6),
+        written.get(0),
+    ];
+    assert_eq!(rt; values, [Some(8), Some(-1), None, None]);
+    let mut cells = vec![in alloc; 3i64; 7]?;
+    written.write_to(cells.as_mut_slice());
+    assert_eq!(rt; cells.as_slice(), [3, 3, 3, 3, 3, 8, 3].as_slice());
+    written.keep_changes(cells.as_slice());
+    assert_eq!(rt; [written.get(5), written.get(4_194_303)], [None, Some(-1)]);
+    Ok(())
+}
+
+#[test]
+fn what_is_left_of_an_overlay_is_applied(rt: HostRuntime) -> Result<(), Fail> {
+    let alloc = rt.alloc();
+    let mut store = started(&rt, alloc)?;
+    if store.count_arrays() > 1 {
+        let cells = store.take_array(1);
+        store.give_array(1, cells);
+    }
+    let mut overlay = Overlay::begin(alloc);
+    overlay.put(0, 0, 10)?;
+    overlay.put(0, 1, 7)?;
+    overlay.put(1, 1, 5)?;
+    overlay.put(2, 3, 9)?;
+    overlay.keep_changes(&store);
+    let cells = [
+        overlay.get(0, 0),
+        overlay.get(0, 1),
+        overlay.get(1, 1),
+        overlay.get(2, 3),
+    ];
+    assert_eq!(rt; cells, [None, Some(7), Some(5), Some(9)]);
+    store.apply(&overlay);
+    let arrays =
+        "arrays: [Cells { items: [10, 7] }, Cells { items: [0, 5] }, Cells { items: [0] }]";
+    let want = format!(in alloc; "Store {{ scalars: [5, 0], {arrays}, printed: [] }}")?;
+    assert_holds(&rt, alloc, &store, want.as_str())?;
     Ok(())
 }

@@ -34,11 +34,12 @@ use Rattle.nona_forms.proofs.Exact.{fits_found}
 abbrev pub Link : Type 1
 Link = ℤ → ℤ → Type 0
 
--- the links of scalars and cells; the scalars of the blocks inside begin at the depth
+-- the links of scalars, cells and printed numbers; the scalars of the blocks inside begin at the depth
 pub record Bond : Type 1 where
   pub depth : ℕ
   pub scalar : ℕ → Link
   pub cell : ℕ → ℕ → Link
+  pub printed : List ℤ → List ℤ → Type 0
 
 -- two stores, of which the first has numbers of 64 bits, are bound
 pub record Bound (b : Bond) (m k : Memory) : Type 0 where
@@ -48,6 +49,7 @@ pub record Bound (b : Bond) (m k : Memory) : Type 0 where
   pub sizes : SameSizes m k
   pub scalar : (x : ℕ) → x < length m.scalars → b.scalar x (scalar_at m x) (scalar_at k x)
   pub cell : (a p : ℕ) → p < length (cells_of m a) → b.cell a p (cell_at m a p) (cell_at k a p)
+  pub printed : b.printed m.printed k.printed
 
 -- what is read is the same in both; a number that is set, and one that is joined, keeps the link
 abbrev pub IsRead : Link → Type 0
@@ -63,6 +65,10 @@ IsFolded f link = (u v w : ℤ) → IsI64 w → link u v → link (join_of f u w
 abbrev pub HasInner : Bond → Type 0
 HasInner b = (x : ℕ) → b.depth ≤ x → IsSet (b.scalar x)
 
+-- one more printed number keeps the link
+abbrev pub IsPrinted : (List ℤ → List ℤ → Type 0) → Type 0
+IsPrinted link = (us vs : List ℤ) (v : ℤ) → IsI64 v → link us vs → link (us ++ v ∷ []) (vs ++ v ∷ [])
+
 -- a deed that a bond grants
 abbrev pub Granted : Bond → Deed → Type 0
 Granted b (reads x) = IsRead (b.scalar x)
@@ -71,7 +77,7 @@ Granted b (folds f x) = IsFolded f (b.scalar x)
 Granted b (loads a p) = IsRead (b.cell a p)
 Granted b (stores a p) = IsSet (b.cell a p)
 Granted b (joins f a p) = IsFolded f (b.cell a p)
-Granted b prints = Unit {0}
+Granted b prints = IsPrinted b.printed
 
 abbrev pub AreGranted : Bond → List Deed → Type 0
 AreGranted b ds = AllByRecursion (Granted b) ds
@@ -109,6 +115,7 @@ declare_bound b v m k inner fits h =
           subst (λ u. b.scalar x u (scalar_at (declare v k) x)) (sym first) (subst (b.scalar x v) (sym second) (inner x (omega (arith, here, deep)) v fits)))
           (cases_lt x (length m.scalars));
       cell = h.cell;
+      printed = h.printed;
     }
 
 assign_bound : (b : Bond) (x : ℕ) (u v : ℤ) (m k : Memory) → AreI64 (assign x u m) → (x < length m.scalars → b.scalar x u v) → Bound b m k → Bound b (assign x u m) (assign x v k)
@@ -130,6 +137,7 @@ assign_bound b x u v m k fits link h =
           subst (λ w. b.scalar y w (scalar_at (assign x v k) y)) (sym (get_or-set_other m.scalars x y u (pos 0) elsewhere)) (subst (b.scalar y (scalar_at m y)) (sym (get_or-set_other k.scalars x y v (pos 0) elsewhere)) (h.scalar y (omega (arith, below, same)))))
           (cases_eq y x);
       cell = h.cell;
+      printed = h.printed;
     }
 
 pub sizes_kept : (m r : Memory) → SameArrays m r → SameSizes m r
@@ -189,9 +197,10 @@ put_bound b a p u v m k fits link h =
           (cases_eq p q))
           (λ (off : a ≡ c → ⊥). put_apart b a p u v m k h c q within (λ same. absurd (off same)))
           (cases_eq a c);
+      printed = h.printed;
     }
 
-cut_bound : (b : Bond) (m k r q : Memory) → Bound b m k → NoFewer m r → Bound b r q → Bound b (cut_to (length m.scalars) r) (cut_to (length k.scalars) q)
+pub cut_bound : (b : Bond) (m k r q : Memory) → Bound b m k → NoFewer m r → Bound b r q → Bound b (cut_to (length m.scalars) r) (cut_to (length k.scalars) q)
 cut_bound b m k r q outer more h =
     let first = length-take (length m.scalars) r.scalars in
     let second = length-take (length k.scalars) q.scalars in
@@ -208,16 +217,18 @@ cut_bound b m k r q outer more h =
           subst (λ w. b.scalar x w (scalar_at (cut_to (length k.scalars) q) x)) (sym (get_or-take (length m.scalars) r.scalars x (pos 0) within))
           (subst (b.scalar x (scalar_at r x)) (sym (get_or-take (length k.scalars) q.scalars x (pos 0) (omega (arith, within, even)))) (h.scalar x (omega (arith, within, more))));
       cell = h.cell;
+      printed = h.printed;
     }
 
-print_bound : (b : Bond) (v : ℤ) (m k : Memory) → IsI64 v → Bound b m k → Bound b (print v m) (print v k)
-print_bound b v m k fits h = record {
+print_bound : (b : Bond) (v : ℤ) (m k : Memory) → IsI64 v → IsPrinted b.printed → Bound b m k → Bound b (print v m) (print v k)
+print_bound b v m k fits more h = record {
   numbers = run_fits (Print (Number v) 0) fits 0 m h.numbers;
   deep = h.deep;
   even = h.even;
   sizes = h.sizes;
   scalar = h.scalar;
   cell = h.cell;
+  printed = more m.printed k.printed v fits h.printed;
 }
 
 -- combinators
@@ -421,7 +432,7 @@ mutual
       (λ j fits_j is_j turns. alike_for b at (turn (run_row body n)) (λ v r. deeds_row body n (declare v r)) i (int_gap i j) n
       (λ l less. alike_turn b has (run_row body n) (deeds_row body n) (λ r. row_kept NoFewer scalars_kept body n r) (row_alike b has body n t.2) (i +ℤ pos l) (index_fits i j l n fits_i fits_j less)) m k h turns) g) each
   run_alike b has (Print e at) n t m k h each =
-      alike_expr b e m k _ _ (λ v. prints ∷ []) (λ v. prints ∷ []) t h (λ v fits is one. record { ends = refl; bound = print_bound b v m k fits h; same = refl }) each
+      alike_expr b e m k _ _ (λ v. prints ∷ []) (λ v. prints ∷ []) t h (λ v fits is one. record { ends = refl; bound = print_bound b v m k fits one.0 h; same = refl }) each
 
   row_alike : (b : Bond) → HasInner b → {l : _} (row : Row_of-Stmt l) (n : ℕ) → IsI64Row row → IsAlikeRow b (run_row row n) (deeds_row row n)
   row_alike b has end_of-Stmt n t m k h each = record { ends = refl; bound = h; same = refl }

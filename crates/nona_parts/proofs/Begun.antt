@@ -119,7 +119,7 @@ joined_same f v part more zero g = refl
 joined_same f v part more (suc t) g =
     ap (λ u. join_of f u (more t)) (joined_same f v part more t (λ j below. g j (omega (arith, below)))) ∙ ap (join_of f (joined_with f v part t)) (g t (omega arith))
 
-swapped : (f : Fold) (a b c : ℤ) → IsI64 a → IsI64 b → IsI64 c → join_of f (join_of f a c) b ≡ join_of f (join_of f a b) c
+pub swapped : (f : Fold) (a b c : ℤ) → IsI64 a → IsI64 b → IsI64 c → join_of f (join_of f a c) b ≡ join_of f (join_of f a b) c
 swapped f a b c fa fb fc = join_assoc f a c b fa fc fb ∙ ap (join_of f a) (join_comm f c b) ∙ sym (join_assoc f a b c fa fb fc)
 
 -- what one task joins to its own, all together have joined

@@ -59,10 +59,10 @@ to_last s h k below = let within = h.within in omega (arith, ints, within, below
 pub thread_done : (s : Sharing) → MayBeShared s → (k : ℕ) → k ≤ s.count → (after s.entry (s.first + k)).end ≡ outcome.Done
 thread_done s h k below = guard_done s.entry h.entered h.steady h.calm h.guarded (s.first + k) (inside s h k below)
 
-as_done : (r : Ran) → r.end ≡ outcome.Done → r ≡ done r.store
+pub as_done : (r : Ran) → r.end ≡ outcome.Done → r ≡ done r.store
 as_done r e = ap (λ (x : Outcome). record { store = r.store; end = x }) e
 
-further : (a b : ℕ) → a + suc b ≡ (a + b) + 1
+pub further : (a b : ℕ) → a + suc b ≡ (a + b) + 1
 further a b = omega arith
 
 pub thread_next : (s : Sharing) → MayBeShared s → (k : ℕ) → k < s.count → after s.entry (s.first + suc k) ≡ iteration s.entry s.first k (thread s k)
@@ -77,7 +77,7 @@ pub body_numbers : (s : Sharing) → MayBeShared s → AreI64Stmts s.entry.loope
 body_numbers s h = statements_numbers s.entry.looped.body h.entered.written.2
 
 -- an index lies between the bounds' values, which have 64 bits
-between_fits : (a b v : ℤ) → IsI64 a → IsI64 b → a ≤ℤ v → v <ℤ b → IsI64 v
+pub between_fits : (a b v : ℤ) → IsI64 a → IsI64 b → a ≤ℤ v → v <ℤ b → IsI64 v
 between_fits a b v h g from to = omega (arith, ints, h, g, from, to)
 
 pub index_number : (s : Sharing) → MayBeShared s → (k : ℕ) → k < s.count → IsI64 (index_of s.entry s.first k)
@@ -159,6 +159,7 @@ task_bond s t m q = record {
   depth = s.entry.looped.index.id;
   scalar = λ x u v. (IsFree s.entry.looped x → v ≡ u) × ((f : Fold) → reduction_of s.entry.looped x ≡ Some f → AreJoined f (scalar_at m x) (scalar_at q x) u v);
   cell = λ a p u v. TaskTouches s t a p → v ≡ u;
+  printed = λ us vs. Unit {0};
 }
 
 has_inner : (s : Sharing) (t : ℕ) (m q : Memory) → HasInner (task_bond s t m q)
@@ -166,7 +167,7 @@ has_inner s t m q x deep v fits = (λ free. refl, λ f e. let below = reduction_
 
 -- what a task's own iteration does is granted
 
-zero_number : IsI64 (pos 0)
+pub zero_number : IsI64 (pos 0)
 zero_number = omega arith
 
 pub scalar_number : (m : Memory) (x : ℕ) → AreI64 m → IsI64 (scalar_at m x)
@@ -184,10 +185,10 @@ plain_is_free l x true e untied c below =
 no_plain : (l : Loop) (x : ℕ) (f : Fold) → Contains (mentions_all l.body) (plainly x) → reduction_of l x ≡ Some f → ⊥
 no_plain l x f c e = let by : None ≡ Some f = reduction_by l f (plainly x) c e in cc
 
-same_fold : (f g : Fold) → Some f ≡ Some g → f ≡ g
+pub same_fold : (f g : Fold) → Some f ≡ Some g → f ≡ g
 same_fold f g e = cc
 
-join_more : (f : Fold) (m q u v w : ℤ) → IsI64 m → IsI64 q → IsI64 w → AreJoined f m q u v → AreJoined f m q (join_of f u w) (join_of f v w)
+pub join_more : (f : Fold) (m q u v w : ℤ) → IsI64 m → IsI64 q → IsI64 w → AreJoined f m q u v → AreJoined f m q (join_of f u w) (join_of f v w)
 join_more f m q u v w fm fq fw h = record {
   by = join_of f h.by w;
   fits = join_fits f h.by w h.fits fw;
@@ -207,7 +208,7 @@ own_granted s h t k m q below mine fm fq (folds f x) c of = λ u v w fits link. 
 own_granted s h t k m q below mine fm fq (loads a p) c of = λ u v link. link (k, below, mine, false, of)
 own_granted s h t k m q below mine fm fq (stores a p) c of = λ v fits touch. refl
 own_granted s h t k m q below mine fm fq (joins f a p) c of = λ u v w fits link touch. ap (λ z. join_of f z w) (link touch)
-own_granted s h t k m q below mine fm fq prints c of = tt
+own_granted s h t k m q below mine fm fq prints c of = λ us vs v fits link. tt
 
 all_granted : (s : Sharing) → MayBeShared s → (t k : ℕ) (m q : Memory) → k < s.count → s.owner k ≡ t → AreI64 m → AreI64 q
     → (ds : List Deed) → AllByRecursion (IsTold (mentions_all s.entry.looped.body) (assigned_all s.entry.looped.body)) ds → AllByRecursion (IsOfAccess s.entry.looped s.entry.store (index_of s.entry s.first k)) ds → AreGranted (task_bond s t m q) ds
@@ -254,7 +255,7 @@ may_begin l entry q numbers depth sizes values = record {
 
 -- the start of a task
 
-none : (k : ℕ) → k + 0 ≡ k
+pub none : (k : ℕ) → k + 0 ≡ k
 none k = omega arith
 
 pub thread_zero : (s : Sharing) → thread s 0 ≡ store_before s
@@ -263,7 +264,7 @@ thread_zero s = ap (λ k. (after s.entry k).store) (none s.first)
 pub before_begins : (s : Sharing) → MayBeShared s → MayBegin s.entry.looped s.entry.store (store_before s)
 before_begins s h = subst (MayBegin s.entry.looped s.entry.store) (thread_zero s) (thread_begins s h 0 (omega arith))
 
-free_no_reduction : (l : Loop) (x : ℕ) (o : Option Fold) → reduction_of l x ≡ o → among x (assigned_all l.body) ≡ false → reduction_of l x ≡ None
+pub free_no_reduction : (l : Loop) (x : ℕ) (o : Option Fold) → reduction_of l x ≡ o → among x (assigned_all l.body) ≡ false → reduction_of l x ≡ None
 free_no_reduction l x None e free = e
 free_no_reduction l x (Some f) e free = let no : true ≡ false = sym (reduction_is_assigned l f x e) ∙ free in cc
 
@@ -287,7 +288,7 @@ deeds_of_access s h k q below begin =
     recursion_from_All (IsOfAccess s.entry.looped s.entry.store (index_of s.entry s.first k)) (iteration_deeds s.entry s.first k q)
     (deeds_touch s.entry.looped s.entry.store s.entry.low s.entry.last (index_of s.entry s.first k) s.entry.turns q h.entered h.steady (from_low s k) (to_last s h k below) begin)
 
-unit_join : (f : Fold) (v : ℤ) → IsI64 v → v ≡ join_of f v (unit_of f)
+pub unit_join : (f : Fold) (v : ℤ) → IsI64 v → v ≡ join_of f v (unit_of f)
 unit_join f v fits = sym (join_comm f v (unit_of f) ∙ join_unit f v fits)
 
 start_bound : (s : Sharing) → MayBeShared s → (t k : ℕ) → k < s.count → Stands s t k → Bound (task_bond s t (thread s k) (turns_to s t k).store) (thread s k) (turns_to s t k).store
@@ -309,6 +310,7 @@ start_bound s h t k below stands =
         λ f e. record { by = unit_of f; fits = unit_fits f; first = unit_join f (scalar_at m x) (scalar_number m x first.kept.numbers); second = unit_join f (scalar_at q x) (scalar_number q x second.kept.numbers) },
       );
       cell = stands.cells;
+      printed = tt;
     }
 
 -- one thread and the task do the same in it

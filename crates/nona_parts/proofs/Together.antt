@@ -30,7 +30,7 @@ use Rattle.nona_parts.proofs.Tasks.{thread, thread_zero, thread_begins, thread_n
 
 -- turns in parts
 
-from_more : (m : Memory) (e : Outcome) (f g : Memory → Ran) → then_do (then_from m e f) g ≡ then_from m e (λ x. then_do (f x) g)
+pub from_more : (m : Memory) (e : Outcome) (f g : Memory → Ran) → then_do (then_from m e f) g ≡ then_from m e (λ x. then_do (f x) g)
 from_more m outcome.Done f g = refl
 from_more m (outcome.Trap t) f g = refl
 from_more m (outcome.OutOfTurns at) f g = refl
@@ -41,7 +41,7 @@ over_append e first (x ∷ xs) ys m =
     (λ i. then_do (iteration e first x m) (λ r. over_append e first xs ys r i))
     ∙ sym (from_more (iteration e first x m).store (iteration e first x m).end (turns_over e first xs) (turns_over e first ys))
 
-ends_there : (m : Memory) (e : Outcome) → then_from m e done ≡ record { store = m; end = e }
+pub ends_there : (m : Memory) (e : Outcome) → then_from m e done ≡ record { store = m; end = e }
 ends_there m outcome.Done = refl
 ends_there m (outcome.Trap t) = refl
 ends_there m (outcome.OutOfTurns at) = refl
@@ -52,7 +52,7 @@ one_over e first k m = ends_there (iteration e first k m).store (iteration e fir
 pub goes_on : (e : Entry) (first : ℕ) (ks : List ℕ) (k : ℕ) (m : Memory) → turns_over e first (ks ++ k ∷ []) m ≡ then_do (turns_over e first ks m) (iteration e first k)
 goes_on e first ks k m = over_append e first ks (k ∷ []) m ∙ (λ i. then_do (turns_over e first ks m) (λ r. one_over e first k r i))
 
-end_more : (m : Memory) (e : Outcome) (f : Memory → Ran) (g : Memory → List Deed) (h : Memory → List Deed)
+pub end_more : (m : Memory) (e : Outcome) (f : Memory → Ran) (g : Memory → List Deed) (h : Memory → List Deed)
     → on_end m e (λ x. g x ++ on_done (f x) h) ≡ on_end m e g ++ on_done (then_from m e f) h
 end_more m outcome.Done f g h = refl
 end_more m (outcome.Trap t) f g h = refl
@@ -65,7 +65,7 @@ deeds_append e first (x ∷ xs) ys m =
     ∙ ap (λ ds. iteration_deeds e first x m ++ ds) (end_more (iteration e first x m).store (iteration e first x m).end (turns_over e first xs) (turns_deeds e first xs) (turns_deeds e first ys))
     ∙ sym (append_assoc (iteration_deeds e first x m) (on_done (iteration e first x m) (turns_deeds e first xs)) _)
 
-nothing_behind : (m : Memory) (e : Outcome) → on_end {B = Deed} m e (λ x. []) ≡ []
+pub nothing_behind : (m : Memory) (e : Outcome) → on_end {B = Deed} m e (λ x. []) ≡ []
 nothing_behind m outcome.Done = refl
 nothing_behind m (outcome.Trap t) = refl
 nothing_behind m (outcome.OutOfTurns at) = refl
@@ -105,7 +105,7 @@ task_done s h t = ap (λ (r : Ran). r.end) (over_to s t s.count) ∙ (stands_at 
 
 -- what a task wrote
 
-same_cell : (a b c d : ℕ) → (a == b && c == d) ≡ true → (a ≡ b) × (c ≡ d)
+pub same_cell : (a b c d : ℕ) → (a == b && c == d) ≡ true → (a ≡ b) × (c ≡ d)
 same_cell a b c d e = let two = both (a == b) (c == d) e in (same_units a b two.0, same_units c d two.1)
 
 write_touched : (s : Sharing) (i : ℤ) (a p : ℕ) (d : Deed) → is_write a p d ≡ true → IsOfAccess s.entry.looped s.entry.store i d → IsTouched s.entry.looped s.entry.store i true a p
@@ -119,7 +119,7 @@ write_touched s i a p (joins f b c) e of =
     let same = same_cell b a c p e in subst (λ z. IsTouched s.entry.looped s.entry.store i true z p) same.0 (subst (IsTouched s.entry.looped s.entry.store i true b) same.1 of)
 write_touched s i a p prints e of = cc
 
-or_cases : (a b : Bool) → (a || b) ≡ true → (a ≡ true) ⊎ (b ≡ true)
+pub or_cases : (a b : Bool) → (a || b) ≡ true → (a ≡ true) ⊎ (b ≡ true)
 or_cases true b e = inl refl
 or_cases false b e = inr e
 
@@ -157,7 +157,7 @@ wrote s h t a p e = wrote_to s h t a p s.count (omega arith) (sym (ap (list_any 
 thread_last : (s : Sharing) → thread s s.count ≡ store_behind s
 thread_last s = refl
 
-cell_past : (m : Memory) (a p : ℕ) → length (cells_of m a) ≤ p → cell_at m a p ≡ pos 0
+pub cell_past : (m : Memory) (a p : ℕ) → length (cells_of m a) ≤ p → cell_at m a p ≡ pos 0
 cell_past m a p past = get_or_past (cells_of m a) p (pos 0) past
 
 pub written : (s : Sharing) → MayBeShared s → (t a p : ℕ) → writes_cell s t a p ≡ true → cell_at (task_run s t).store a p ≡ cell_at (store_behind s) a p
@@ -185,10 +185,10 @@ written_once s h t u a p e g =
 
 -- a cell that no task wrote
 
-not_same : (a b c d : ℕ) → (a == b && c == d) ≡ false → a ≡ b → c ≢ d
+pub not_same : (a b c d : ℕ) → (a == b && c == d) ≡ false → a ≡ b → c ≢ d
 not_same a b c d e same_a same_c = grind (arith, e, same_a, same_c)
 
-spared : (a p : ℕ) (d : Deed) → is_write a p d ≡ false → SparesCell a p d
+pub spared : (a p : ℕ) (d : Deed) → is_write a p d ≡ false → SparesCell a p d
 spared a p (reads x) e = tt
 spared a p (sets x) e = tt
 spared a p (folds f x) e = tt

@@ -45,26 +45,26 @@ tail_in : {A : Type 0} (x : A) (xs all : List A) → AreIn (x ∷ xs) all → Ar
 tail_in x xs all h y (k, within, is) = h y (suc k, omega (arith, within), is)
 
 -- lists of deeds, whatever store they come from
-ok_all : {A : Type 0} (P : Deed → Type 0) (o : Result A Trap) (go : A → List Deed) → ((a : A) → AllByRecursion P (go a)) → AllByRecursion P (on_ok o go)
+pub ok_all : {A : Type 0} (P : Deed → Type 0) (o : Result A Trap) (go : A → List Deed) → ((a : A) → AllByRecursion P (go a)) → AllByRecursion P (on_ok o go)
 ok_all P (Ok a) go h = h a
 ok_all P (Err t) go h = tt
 
-end_all : (P : Deed → Type 0) (m : Memory) (e : Outcome) (go : Memory → List Deed) → ((r : Memory) → AllByRecursion P (go r)) → AllByRecursion P (on_end m e go)
+pub end_all : (P : Deed → Type 0) (m : Memory) (e : Outcome) (go : Memory → List Deed) → ((r : Memory) → AllByRecursion P (go r)) → AllByRecursion P (on_end m e go)
 end_all P m outcome.Done go h = h m
 end_all P m (outcome.Trap t) go h = tt
 end_all P m (outcome.OutOfTurns at) go h = tt
 
-if_all : (P : Deed → Type 0) (b : Bool) (xs ys : List Deed) → AllByRecursion P xs → AllByRecursion P ys → AllByRecursion P (if b then xs else ys)
+pub if_all : (P : Deed → Type 0) (b : Bool) (xs ys : List Deed) → AllByRecursion P xs → AllByRecursion P ys → AllByRecursion P (if b then xs else ys)
 if_all P true xs ys h g = h
 if_all P false xs ys h g = g
 
-while_all : (P : Deed → Type 0) (test : Memory → Answer) (asked : Memory → List Deed) (body : Memory → Ran) (given : Memory → List Deed)
+pub while_all : (P : Deed → Type 0) (test : Memory → Answer) (asked : Memory → List Deed) (body : Memory → Ran) (given : Memory → List Deed)
     → ((m : Memory) → AllByRecursion P (asked m)) → ((m : Memory) → AllByRecursion P (given m)) → (n : ℕ) (m : Memory) → AllByRecursion P (while_gives test asked body given n m)
 while_all P test asked body given h g zero m = h m
 while_all P test asked body given h g (suc n) m =
     all_of_two P (asked m) _ (h m) (ok_all P (test m) _ (λ v. if_all P (is_zero v) [] _ tt (all_of_two P (given m) _ (g m) (end_all P (body m).store (body m).end _ (λ r. while_all P test asked body given h g n r)))))
 
-first_all : (P : Deed → Type 0) (body : ℤ → Memory → Ran) (given : ℤ → Memory → List Deed) (low : ℤ) → ((i : ℤ) (m : Memory) → AllByRecursion P (given i m)) → (k : ℕ) (m : Memory) → AllByRecursion P (first_give body given low k m)
+pub first_all : (P : Deed → Type 0) (body : ℤ → Memory → Ran) (given : ℤ → Memory → List Deed) (low : ℤ) → ((i : ℤ) (m : Memory) → AllByRecursion P (given i m)) → (k : ℕ) (m : Memory) → AllByRecursion P (first_give body given low k m)
 first_all P body given low h zero m = tt
 first_all P body given low h (suc k) m =
     all_of_two P (first_give body given low k m) _ (first_all P body given low h k m) (end_all P (first_turns body low k m).store (first_turns body low k m).end (given (low +ℤ pos k)) (λ r. h (low +ℤ pos k) r))

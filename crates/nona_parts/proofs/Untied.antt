@@ -24,13 +24,13 @@ use Rattle.nona_plans.proofs.Lists.{unit_among}
 
 -- lists
 
-first_in : {A : Type 0} (x : A) (xs : List A) → Contains (x ∷ xs) x
+pub first_in : {A : Type 0} (x : A) (xs : List A) → Contains (x ∷ xs) x
 first_in x xs = (0, omega arith, refl)
 
-later_in : {A : Type 0} (x y : A) (xs : List A) → Contains xs x → Contains (y ∷ xs) x
+pub later_in : {A : Type 0} (x y : A) (xs : List A) → Contains xs x → Contains (y ∷ xs) x
 later_in x y xs (k, within, is) = (suc k, omega (arith, within), is)
 
-any_of : {A : Type 0} (p : A → Bool) (xs : List A) (x : A) → Contains xs x → p x ≡ true → list_any p xs ≡ true
+pub any_of : {A : Type 0} (p : A → Bool) (xs : List A) (x : A) → Contains xs x → p x ≡ true → list_any p xs ≡ true
 any_of p [] x (k, within, is) e = absurd (omega (arith, within))
 any_of p (y ∷ ys) x (zero, within, is) e = or_left (p y) (list_any p ys) (ap p is ∙ e)
 any_of p (y ∷ ys) x (suc k, within, is) e = or_right (p y) (list_any p ys) (any_of p ys x (k, omega (arith, within), is) e)
@@ -52,7 +52,7 @@ any_flat p f [] x (k, within, is) e = absurd (omega (arith, within))
 any_flat p f (y ∷ ys) x (zero, within, is) e = any_left p (f y) (flat_map f ys) (ap (λ z. list_any p (f z)) is ∙ e)
 any_flat p f (y ∷ ys) x (suc k, within, is) e = any_right p (f y) (flat_map f ys) (any_flat p f ys x (k, omega (arith, within), is) e)
 
-same_number : (x : ℕ) → (x == x) ≡ true
+pub same_number : (x : ℕ) → (x == x) ≡ true
 same_number x = grind arith
 
 if_first : (b rest : Bool) → b ≡ true → (if b then true else rest) ≡ true
@@ -80,12 +80,12 @@ in_filter_if : {A : Type 0} (p : A → Bool) (x y : A) (ys : List A) (b : Bool) 
 in_filter_if p x y ys true e passes h = ⊎_elim (λ (is : y ≡ x). subst (λ z. Contains (z ∷ filter p ys) x) (sym is) (first_in x (filter p ys))) (λ c. later_in x y (filter p ys) c) h
 in_filter_if p x y ys false e passes h = ⊎_elim (λ (is : y ≡ x). let not_so : false ≡ true = passes is in cc) (λ c. c) h
 
-in_filter : {A : Type 0} (p : A → Bool) (xs : List A) (x : A) → Contains xs x → p x ≡ true → Contains (filter p xs) x
+pub in_filter : {A : Type 0} (p : A → Bool) (xs : List A) (x : A) → Contains xs x → p x ≡ true → Contains (filter p xs) x
 in_filter p [] x (k, within, is) e = absurd (omega (arith, within))
 in_filter p (y ∷ ys) x (zero, within, is) e = in_filter_if p x y ys (p y) refl (λ same. ap p same ∙ e) (inl is)
 in_filter p (y ∷ ys) x (suc k, within, is) e = in_filter_if p x y ys (p y) refl (λ same. ap p same ∙ e) (inr (in_filter p ys x (k, omega (arith, within), is) e))
 
-in_map : {A B : Type 0} (f : A → B) (xs : List A) (x : A) → Contains xs x → Contains (map f xs) (f x)
+pub in_map : {A B : Type 0} (f : A → B) (xs : List A) (x : A) → Contains xs x → Contains (map f xs) (f x)
 in_map f [] x (k, within, is) = absurd (omega (arith, within))
 in_map f (y ∷ ys) x (zero, within, is) = (0, omega arith, ap f is)
 in_map f (y ∷ ys) x (suc k, within, is) = later_in (f x) (f y) (map f ys) (in_map f ys x (k, omega (arith, within), is))
@@ -139,7 +139,7 @@ reduction_by l f x c h =
 lt_is : (a b : ℕ) → nat_lt a b ≡ true → a < b
 lt_is a b e = grind arith
 
-is_lt : (a b : ℕ) → a < b → nat_lt a b ≡ true
+pub is_lt : (a b : ℕ) → a < b → nat_lt a b ≡ true
 is_lt a b e = grind arith
 
 pub reduction_below : (l : Loop) (f : By) (id : ℕ) → reduction_of l id ≡ Some f → id < l.index.id
@@ -162,7 +162,7 @@ one_named x id rest (zero, within, is) = (0, omega arith, is)
 one_named x id rest (suc k, within, is) = absurd (omega (arith, within))
 
 mutual
-  assigned_named : (s : Stmt) (id : ℕ) → Contains (assigned s) id → Contains (map (λ (m : Mention). m.id) (mentions s)) id
+  pub assigned_named : (s : Stmt) (id : ℕ) → Contains (assigned s) id → Contains (map (λ (m : Mention). m.id) (mentions s)) id
   assigned_named (Let x e) id (k, within, is) = absurd (omega (arith, within))
   assigned_named (Set x e) id c = one_named x.id id (map (λ (m : Mention). m.id) (expr_mentions e)) c
   assigned_named (FoldInto x f e) id c = one_named x.id id (map (λ (m : Mention). m.id) (expr_mentions e)) c
@@ -206,7 +206,7 @@ reference_at [] x (k, within, is) = absurd (omega (arith, within))
 reference_at (s ∷ rest) x c =
     ⊎_elim (λ here. at_first arrays_in s rest x.access.array.id (in_map (λ (y : Reference). y.access.array.id) (references s) x here)) (λ there. at_later arrays_in s rest x.access.array.id (reference_at rest x there)) (Contains-append_cases (references s) (references_all rest) x c)
 
-one_less : (k : ℕ) → suc k - 1 ≡ k
+pub one_less : (k : ℕ) → suc k - 1 ≡ k
 one_less k = omega arith
 
 -- a unit that has an id has it with itself
@@ -221,7 +221,7 @@ tie_if : (c rest : Bool) (u v : ℕ) → c ≡ true → list_any (λ (t : Tie). 
 tie_if true rest u v e = refl
 tie_if false rest u v e = cc
 
-le_self : (u : ℕ) → nat_le u u ≡ true
+pub le_self : (u : ℕ) → nat_le u u ≡ true
 le_self u = grind arith
 
 tie_found : (l : Loop) (u : ℕ) → IsUnit (length l.body) u → is_carried [] l u u ≡ true → list_any (λ t. t.carried) (ties_of l) ≡ true
@@ -232,7 +232,7 @@ tie_found l u unit e =
     (any_flat (λ (t : Tie). t.carried) (tie_of [] l u) (filter (λ v. nat_le u v) units) u (in_filter (λ v. nat_le u v) units u there (le_self u))
     (tie_if (is_carried [] l u u) (both_have arrays_in l u u (written_arrays [] l) || share_local l u u) u u e))
 
-no_and_yes : (b : Bool) → b ≡ true → b ≡ false → ⊥
+pub no_and_yes : (b : Bool) → b ≡ true → b ≡ false → ⊥
 no_and_yes true e h = cc
 no_and_yes false e h = cc
 
@@ -265,7 +265,7 @@ none_of p [] x (k, within, is) e = absurd (omega (arith, within))
 none_of p (y ∷ ys) x (zero, within, is) e = sym (ap p is) ∙ (or_none (p y) (list_any p ys) e).0
 none_of p (y ∷ ys) x (suc k, within, is) e = none_of p ys x (k, omega (arith, within), is) (or_none (p y) (list_any p ys) e).1
 
-no_pair : {A : Type 0} (test : A → A → Bool) (xs : List A) (x y : A) → Contains xs x → Contains xs y → has_pair test xs ≡ false → (test x y ≡ false) ⊎ (test y x ≡ false)
+pub no_pair : {A : Type 0} (test : A → A → Bool) (xs : List A) (x y : A) → Contains xs x → Contains xs y → has_pair test xs ≡ false → (test x y ≡ false) ⊎ (test y x ≡ false)
 no_pair test [] x y (k, within, is) d e = absurd (omega (arith, within))
 no_pair test (z ∷ zs) x y (zero, within, is) d e =
     inl (sym (ap (λ w. test w y) is) ∙ none_of (test z) (z ∷ zs) y d (or_none (list_any (test z) (z ∷ zs)) (has_pair test zs) e).0)
@@ -274,14 +274,14 @@ no_pair test (z ∷ zs) x y (suc k, within, is) (zero, inside, at) e =
 no_pair test (z ∷ zs) x y (suc k, within, is) (suc j, inside, at) e =
     no_pair test zs x y (k, omega (arith, within), is) (j, omega (arith, inside), at) (or_none (list_any (test z) (z ∷ zs)) (has_pair test zs) e).1
 
-apart_if : (a b c d : Bool) → a ≡ true → b ≡ true → c ≡ true → (a && (b && (c && not d))) ≡ false → d ≡ true
+pub apart_if : (a b c d : Bool) → a ≡ true → b ≡ true → c ≡ true → (a && (b && (c && not d))) ≡ false → d ≡ true
 apart_if true true true true h g e k = refl
 apart_if true true true false h g e k = cc
 apart_if true true false d h g e k = cc
 apart_if true false c d h g e k = cc
 apart_if false b c d h g e k = cc
 
-same_array : (a b : ℕ) → a ≡ b → (a == b) ≡ true
+pub same_array : (a b : ℕ) → a ≡ b → (a == b) ≡ true
 same_array a b e = grind arith
 
 no_pairs : (l : Loop) (x : Reference) (b : Bool) → has_pair (may_meet l x.access.array.id) (references_all l.body) ≡ b → list_any (λ t. t.carried) (ties_of l) ≡ false → Contains (references_all l.body) x → x.write ≡ true → b ≡ false
@@ -369,7 +369,7 @@ of_filter_if p x y ys true e (zero, within, is) go = ((0, omega arith, is), sym 
 of_filter_if p x y ys true e (suc k, within, is) go = let later = go (k, omega (arith, within), is) in (later_in x y ys later.0, later.1)
 of_filter_if p x y ys false e c go = let later = go c in (later_in x y ys later.0, later.1)
 
-of_filter : {A : Type 0} (p : A → Bool) (xs : List A) (x : A) → Contains (filter p xs) x → Contains xs x × (p x ≡ true)
+pub of_filter : {A : Type 0} (p : A → Bool) (xs : List A) (x : A) → Contains (filter p xs) x → Contains xs x × (p x ≡ true)
 of_filter p [] x (k, within, is) = absurd (omega (arith, within))
 of_filter p (y ∷ ys) x c = of_filter_if p x y ys (p y) refl c (of_filter p ys x)
 

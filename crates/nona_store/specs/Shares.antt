@@ -1,14 +1,14 @@
 -- What one of several tasks sees of a store.
 use Rattle.std.specs.Prelude.{◌++◌, true, false, ℤ, List, None, Some}
+use Rattle.std.specs.declared.option.Option.{Option}
 use Rattle.nona_tree.specs.Memory.{Memory}
-use Rattle.nona_store.specs.declared.overlay.Place.{Place}
 use Rattle.nona_store.specs.Banks.{Limits}
 use Rattle.nona_store.specs.Overlays.{over_of, arrays_under}
 
 -- a task's own scalars, the cells that it has written, and what it has printed
 pub record ShareView : Type 0 where
   pub scalars : List ℤ
-  pub written : List (Place × ℤ)
+  pub written : List (List (List (Option ℤ)))
   pub printed : List ℤ
 
 -- the store that a task sees: its own scalars, the cells of a store under those that it has written, and behind what the store

@@ -1,8 +1,10 @@
 ghost use Rattle.std.specs.Prelude.{◌≡◌, ◌<◌, ◌≤◌, [], pos, length, replicate, slice_set, slice_index_or, All, IfOk};
+ghost use Rattle.nona_sparse.specs.Sparse.{at, cells_under};
 ghost use Rattle.nona_tree.specs.Faults.{cell_bound};
 ghost use Rattle.nona_tree.specs.Numbers.{IsI64};
 ghost use Rattle.nona_store.specs.Arrays.{AreKept};
 
+use nona_sparse::SparseArray;
 use std::alloc::{AllocError, Global};
 use std::marker::Model;
 
@@ -80,6 +82,14 @@ impl Cells {
         ensures { self.new ≡ slice_set self.old index value }
     {
         self.items[index] = value;
+    }
+
+    /// Gives each cell the value that is written at its place, where one is. Values behind the last cell are left out. Takes no
+    /// memory.
+    pub fn write(&mut self, written: &SparseArray)
+        ensures { self.new ≡ cells_under (at written.now) 0 self.old }
+    {
+        written.write_to(self.items.as_mut_slice());
     }
 
     /// The values of the cells in order.

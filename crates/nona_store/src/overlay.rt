@@ -1,35 +1,49 @@
-ghost use Rattle.std.specs.Prelude.{◌≡◌, OnOk, OnErr};
-ghost use Rattle.nona_store.specs.Overlays.{HasCells, over_of, under, unwritten, with_cell, with_changes};
+ghost use Rattle.std.specs.Prelude.{◌≡◌, ◌<◌, ℕ, length, slice_index_or, [], OnOk, OnErr};
+ghost use Rattle.nona_sparse.specs.Sparse.{changes};
+ghost use Rattle.nona_tree.specs.Faults.{cell_bound};
+ghost use Rattle.nona_store.specs.Overlays.{changes_of, over_of, unwritten, with_cell};
 
+use crate::cells::Cells;
 use crate::store::Store;
+use nona_sparse::SparseArray;
 use std::alloc::{AllocError, Global};
-use std::collections::BTreeMap;
 use std::marker::Model;
 
-/// A cell of a store: the id of its array, and its place there.
-#[derive(Clone, Copy, Debug, PartialEq, Eq, PartialOrd, Ord)]
-pub struct Place {
-    pub array: u32,
-    pub index: usize,
-}
-
-/// Values of cells that are written beside a store and not yet in it. Contracts see a finite map: for an array and a place the
-/// value that was last put there, if any was (`over_of`). Each value has 64 bits.
+/// Values of cells that are written beside a store and not yet in it: a sparse array for each array up to the last one that has such
+/// cells. Contracts see for an array and a place the value that was last put there, if any was (`over_of`).
 #[derive(Drop)]
 pub struct Overlay {
-    cells: BTreeMap<Place, i64>,
+    arrays: Vec<SparseArray>,
 }
 
 impl Model for Overlay {
-    ghost use Rattle.std.specs.Prelude.{ℤ, List};
-    ghost use Rattle.nona_store.specs.declared.overlay.Place.{Place};
-    ghost use Rattle.nona_store.specs.Overlays.{IsOverlay};
+    ghost use Rattle.std.specs.Prelude.{ℤ, List, Option};
 
-    ghost Value = { List (Place × ℤ) };
+    ghost Value = { List (List (List (Option ℤ))) };
 
-    ghost view = { λ o. o.cells.entries };
+    ghost view = { λ o. o.arrays.items };
+}
 
-    ghost invariant = { λ o. IsOverlay o.cells };
+// Adds sparse arrays without values, until there is the one with this id: none where it is there already. Where memory runs out,
+// there may be some more.
+fn add_arrays(alloc: Global, arrays: &mut Vec<SparseArray>, id: u32) -> Result<(), AllocError>
+    ensures same { over_of arrays.new.items ≡ over_of arrays.old.items }
+    ensures there { OnOk result (id < length arrays.new.items) }
+{
+    'arrays: for _ in arrays.len()..id as usize + 1 {
+        arrays.push(SparseArray::begin(alloc))?;
+    }
+    Ok(())
+}
+
+// Leaves of the written values those that the arrays' cells don't have.
+fn keep_left(written: &mut Vec<SparseArray>, arrays: &[Cells])
+    ensures { (id : ℕ) → over_of written.new.items id ≡ changes (slice_index_or arrays.now id []) (over_of written.old.items id) }
+{
+    let many = written.len().min(arrays.len());
+    'arrays: for id in 0..many {
+        written[id].keep_changes(arrays[id].as_slice());
+    }
 }
 
 impl Overlay {
@@ -38,53 +52,45 @@ impl Overlay {
         ensures { result ≡ unwritten }
     {
         Overlay {
-            cells: BTreeMap::new(alloc),
+            arrays: Vec::new(alloc),
         }
     }
 
-    /// Puts a value on the cell at this place of the array with this id, in place of one that was there. Takes a time
-    /// logarithmic in the number of cells. Where memory runs out the overlay is unchanged.
-    pub fn put(&mut self, array: u32, index: usize, value: i64) -> Result<(), AllocError>
-        ensures ok { OnOk result (over_of self.new ≡ with_cell array index value (over_of self.old)) }
-        ensures err { OnErr result (self.new ≡ self.old) }
+    /// The written values of each array, in order of id, up to the last one that has any.
+    pub(crate) fn arrays(&self) -> &[SparseArray]
+        ensures { result.now ≡ self.now }
     {
-        self.cells.insert(Place { array, index }, value)?;
-        Ok(())
+        self.arrays.as_slice()
     }
 
-    /// The value that was put on the cell at this place of the array with this id, if any was. Takes a time logarithmic in the
-    /// number of cells.
+    /// Puts a value on the cell at this place of the array with this id, in place of one that was there. Takes constant time, but
+    /// where places have to be made for it: as many as there are arrays up to this one, and those of `SparseArray::put`, which are
+    /// there from then on. Where memory runs out, each cell has what it had.
+    pub fn put(&mut self, array: u32, index: usize, value: i64) -> Result<(), AllocError>
+        requires { index < cell_bound }
+        ensures ok { OnOk result (over_of self.new ≡ with_cell array index value (over_of self.old)) }
+        ensures err { OnErr result (over_of self.new ≡ over_of self.old) }
+    {
+        let alloc = *self.arrays.allocator();
+        add_arrays(alloc, &mut self.arrays, array)?;
+        self.arrays[array as usize].put(index, value)
+    }
+
+    /// The value that was put on the cell at this place of the array with this id, if any was. Takes constant time.
     pub fn get(&self, array: u32, index: usize) -> Option<i64>
         ensures { result ≡ over_of self.now array index }
     {
-        self.cells.get(&Place { array, index }).copied()
+        if array as usize >= self.arrays.len() {
+            return None;
+        }
+        self.arrays[array as usize].get(index)
     }
 
-    /// Puts each value of another overlay that isn't what the store has there. All its cells are ones of the store. Takes a time
-    /// in proportion to the number of its cells and logarithmic in the number of this one's. Where memory runs out, some of them
-    /// may have been put.
-    pub fn put_changes(&mut self, other: &Overlay, store: &Store) -> Result<(), AllocError>
-        requires { HasCells store.now (over_of other.now) }
-        ensures { OnOk result (over_of self.new ≡ with_changes store.now (over_of other.now) (over_of self.old)) }
+    /// Forgets each value that the store's cell at its place has already. Takes no memory, and a time in proportion to the places of
+    /// its pages.
+    pub fn keep_changes(&mut self, store: &Store)
+        ensures { over_of self.new ≡ changes_of store.now (over_of self.old) }
     {
-        for (place, value) in other.cells.iter() {
-            if *value != store.cell(place.array, place.index) {
-                self.put(place.array, place.index, *value)?;
-            }
-        }
-        Ok(())
-    }
-}
-
-impl Store {
-    /// Gives each cell that an overlay has its value; all of them are there. Nothing else changes. Takes no memory, and a time
-    /// in proportion to the number of cells.
-    pub fn apply(&mut self, overlay: &Overlay)
-        requires { HasCells self.old (over_of overlay.now) }
-        ensures { self.new ≡ under (over_of overlay.now) self.old }
-    {
-        for (place, value) in overlay.cells.iter() {
-            self.put_cell(place.array, place.index, *value);
-        }
+        keep_left(&mut self.arrays, store.arrays());
     }
 }

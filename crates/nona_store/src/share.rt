@@ -1,5 +1,6 @@
 ghost use Rattle.std.specs.Prelude.{◌≡◌, ◌<◌, ◌≤◌, ◌-◌, ◌++◌, ◌∷◌, [], pos, length, take, slice_index_or, slice_set, OnOk, OnErr};
-ghost use Rattle.nona_store.specs.Overlays.{HasCells, over_of, unwritten, with_cell};
+ghost use Rattle.nona_tree.specs.Faults.{cell_bound};
+ghost use Rattle.nona_store.specs.Overlays.{changes_of, over_of, unwritten, with_cell};
 
 use crate::banks::Bank;
 use crate::overlay::Overlay;
@@ -116,21 +117,32 @@ impl Share {
         self.overlay.get(array, index)
     }
 
-    /// Writes a value on a cell. Where memory runs out the share is unchanged.
+    /// Writes a value on a cell. Where memory runs out, each cell has what it had.
     fn put(&mut self, array: u32, index: usize, value: i64) -> Result<(), AllocError>
-        ensures scalars { OnOk result (self.new.scalars ≡ self.old.scalars) }
-        ensures written { OnOk result (over_of self.new.written ≡ with_cell array index value (over_of self.old.written)) }
-        ensures printed { OnOk result (self.new.printed ≡ self.old.printed) }
-        ensures err { OnErr result (self.new ≡ self.old) }
+        requires { index < cell_bound }
+        ensures scalars { self.new.scalars ≡ self.old.scalars }
+        ensures printed { self.new.printed ≡ self.old.printed }
+        ensures ok { OnOk result (over_of self.new.written ≡ with_cell array index value (over_of self.old.written)) }
+        ensures err { OnErr result (over_of self.new.written ≡ over_of self.old.written) }
     {
         self.overlay.put(array, index, value)
+    }
+
+    /// Forgets each written value that the store's cell has already. Takes no memory, and a time in proportion to the places of the
+    /// pages in which values were written.
+    pub fn keep_changes(&mut self, store: &Store)
+        ensures scalars { self.new.scalars ≡ self.old.scalars }
+        ensures printed { self.new.printed ≡ self.old.printed }
+        ensures written { over_of self.new.written ≡ changes_of store.now (over_of self.old.written) }
+    {
+        self.overlay.keep_changes(store);
     }
 }
 
 /// A store as a task sees it: the task's own scalars, the store's cells under those that the task has written, and behind what the
-/// store has printed what the task has printed. Every cell may be loaded and saved, and numbers may be printed. A load and a save
-/// take a time logarithmic in the number of written cells. What is written goes to the share alone, whose written cells are
-/// always cells of the store. It owns the share, which is moved in and out, so that the share is known after any calls.
+/// store has printed what the task has printed. Every cell may be loaded and saved, and numbers may be printed. Each call takes
+/// constant time, but where a save is the first one near its cell (`Overlay::put`). What is written goes to the share alone. It
+/// owns the share, which is moved in and out, so that the share is known after any calls.
 #[derive(Drop)]
 pub struct ShareBank<'a> {
     store: &'a Store,
@@ -138,29 +150,24 @@ pub struct ShareBank<'a> {
 }
 
 impl<'a> Model for ShareBank<'a> {
-    ghost use Rattle.nona_store.specs.Overlays.{HasCells, over_of};
     ghost use Rattle.nona_store.specs.Shares.{BankView};
 
     ghost Value = { BankView };
 
     ghost view = { λ b. record { store = b.store.now; share = b.share } };
-
-    ghost invariant = { λ b. HasCells b.store.now (over_of b.share.written) };
 }
 
 impl<'a> ShareBank<'a> {
-    /// A task's share over a store; the written cells are ones of the store. Takes constant time and no memory.
+    /// A task's share over a store. Takes constant time and no memory.
     pub fn over(store: &'a Store, share: Share) -> ShareBank<'a>
-        requires { HasCells store.now (over_of share.written) }
         ensures { result ≡ record { store = store.now; share = share } }
     {
         ShareBank { store, share }
     }
 
-    /// Moves the share out; its written cells are ones of the store. Takes constant time and no memory.
+    /// Moves the share out. Takes constant time and no memory.
     pub fn into_share(self) -> Share
-        ensures share { result ≡ self.entry.share }
-        ensures cells { HasCells self.entry.store (over_of result.written) }
+        ensures { result ≡ self.entry.share }
     {
         self.share
     }
@@ -194,11 +201,14 @@ impl<'a> Bank for ShareBank<'a> {
     }
 
     fn load(&mut self, array: u32, index: usize) -> i64 {
-        let own = self.store.cell(array, index);
-        self.share.get(array, index).unwrap_or(own)
+        match self.share.get(array, index) {
+            Some(written) => written,
+            None => self.store.cell(array, index),
+        }
     }
 
     fn save(&mut self, array: u32, index: usize, value: i64) -> Result<(), AllocError> {
+        self.store.is_kept();
         self.share.put(array, index, value)
     }
 

@@ -1,6 +1,8 @@
 ghost use Rattle.std.specs.Prelude.{◌≡◌, ◌<◌, ◌≤◌, ◌-◌, [], length, map, replicate, pos, All, OnOk, OnErr, IfOk};
 ghost use Rattle.nona_store.specs.Arrays.{with_array, AreSized, IsSized, AreFew};
+ghost use Rattle.nona_sparse.specs.Sparse.{at, cells_under};
 ghost use Rattle.nona_store.specs.Input.{number_bound};
+ghost use Rattle.nona_store.specs.Overlays.{over_of, under};
 ghost use Rattle.nona_tree.specs.Faults.{cell_bound};
 ghost use Rattle.nona_tree.specs.Numbers.{IsI64, AreI64};
 ghost use Rattle.nona_tree.specs.Memory.{scalar_at, cells_of, cell_at, declare, assign, put_cell, print, cut_to};
@@ -8,6 +10,8 @@ ghost use Rattle.nona_tree.specs.Run.{start_of, start_arrays, count_of};
 ghost use Rattle.nona_tree.specs.declared.trees.VarDecl.{VarDecl};
 
 use crate::cells::Cells;
+use crate::overlay::Overlay;
+use nona_sparse::SparseArray;
 use nona_tree::{ArrayDecl, Checked, VarDecl, cells_are_bounded, numbers_stay};
 use std::alloc::{AllocError, Global};
 use std::marker::Model;
@@ -208,6 +212,35 @@ impl Store {
     {
         let cells = &mut self.arrays[array as usize];
         cells.put(index, value);
+    }
+
+    /// The cells of each array, in order of id.
+    pub(crate) fn arrays(&self) -> &[Cells]
+        ensures { result.now ≡ self.now.arrays }
+    {
+        self.arrays.as_slice()
+    }
+
+    /// Gives each cell of an array that is there the value that is written at its place, where one is. Nothing else changes.
+    fn write_array(&mut self, array: usize, written: &SparseArray)
+        requires { array < length self.old.arrays }
+        ensures { self.new ≡ with_array array (cells_under (at written.now) 0 (cells_of self.old array)) self.old }
+    {
+        let cells = &mut self.arrays[array];
+        cells.write(written);
+        cells.are_kept();
+    }
+
+    /// Gives each cell that an overlay has its value; those that the store doesn't have are left out. Nothing else changes. Takes no
+    /// memory, and a time in proportion to the places of the overlay's pages.
+    pub fn apply(&mut self, overlay: &Overlay)
+        ensures { self.new ≡ under (over_of overlay.now) self.old }
+    {
+        let written = overlay.arrays();
+        let many = written.len().min(self.arrays.len());
+        'arrays: for array in 0..many {
+            self.write_array(array, &written[array]);
+        }
     }
 
     /// The values of the cells, in order, of the array with this id, which is there.

@@ -149,15 +149,14 @@ impl<'a> Net<'a> {
         Ok(())
     }
 
-    /// What the interval did, and the live state that it hands on, once all tasks have finished. The store is moved. An error comes
-    /// where memory runs out.
-    pub fn settle(self) -> Result<(Handoff, Ran), AllocError>
+    /// What the interval did, and the live state that it hands on, once all tasks have finished. The store is moved.
+    pub fn settle(self) -> (Handoff, Ran)
         requires sound { IsNet self }
         requires over { is_over machine (view_of self) ≡ true }
-        ensures { IfOk result (λ r. EndsWith (view_of self.entry) r.1 r.0) }
+        ensures { EndsWith (view_of self.entry) result.1 result.0 }
     {
         match self {
-            Net::One(task) => Ok(task.finish()),
+            Net::One(task) => task.finish(),
             Net::Shared(tasks) => tasks.settle(),
         }
     }

@@ -108,12 +108,12 @@ impl<'a> SharedTasks<'a> {
         self.sharing.step(task)
     }
 
-    /// What the interval did, and the live state that it hands on, once all tasks have finished. The store is moved, and settled. An
-    /// error comes where memory runs out.
-    pub fn settle(self) -> Result<(Handoff, Ran), AllocError>
+    /// What the interval did, and the live state that it hands on, once all tasks have finished. The store is moved, and settled.
+    /// Takes no memory.
+    pub fn settle(self) -> (Handoff, Ran)
         requires sound { IsSharedTasks self }
         requires over { is_over machine (shared_view self) ≡ true }
-        ensures { IfOk result (λ r. EndsWith (shared_view self.entry) r.1 r.0) }
+        ensures { EndsWith (shared_view self.entry) result.1 result.0 }
     {
         sharing_settles();
         reductions_stand();
@@ -128,7 +128,7 @@ impl<'a> SharedTasks<'a> {
             ticks: self.sharing.ticks(),
             cut: Cut::of(Outcome::Done, granted, self.sharing.limit()),
         };
-        let store = self.sharing.settle(self.reductions)?;
-        Ok((Handoff { next: to, store }, ran))
+        let store = self.sharing.settle(self.reductions);
+        (Handoff { next: to, store }, ran)
     }
 }

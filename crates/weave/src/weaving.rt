@@ -112,7 +112,7 @@ impl Weave {
         let mut net = Net::begin(alloc, entry, code, handoff, config, limit)?;
         self.at = follow(&self.script.commands, self.at, &mut net)?;
         net.run_out()?;
-        net.settle()
+        Ok(net.settle())
     }
 }
 

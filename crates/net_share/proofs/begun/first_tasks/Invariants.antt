@@ -2,7 +2,6 @@ use Rattle.std.proofs.Common.{◌≡◌, ◌≤◌, map}
 use Rattle.std.specs.Prelude.{All}
 use Rattle.net_flow.specs.Begun.{workers_of}
 use Rattle.nona_parts.specs.Sharing.{with_units}
-use Rattle.nona_store.specs.Overlays.{HasCells, over_of}
 use Rattle.net_share.specs.Tasks.{TaskView, task_over}
 use Rattle.net_share.proofs.begun.first_tasks.Given as goal
 
@@ -12,5 +11,4 @@ invariant-tasks l =
     record {
       tasks : map (task_over l.store) l.tasks.items ≡ workers_of (λ s w. with_units l.reductions l.store) 0 l.number;
       room : All (λ (x : TaskView). l.units.room ≤ x.room) l.tasks.items;
-      cells : All (λ (x : TaskView). HasCells l.store (over_of x.share.written)) l.tasks.items;
     }

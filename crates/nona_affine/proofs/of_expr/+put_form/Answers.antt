@@ -2,7 +2,7 @@ use Rattle.std.proofs.Common.{◌∙◌, [], ◌∷◌, ◌++◌, ap, subst, sym
 use Rattle.nona_forms.specs.Affine.{form_by, form_of, on_form}
 use Rattle.nona_affine.specs.Put.{IsPut}
 use Rattle.nona_affine.proofs.FormEquations.{form-Binary}
-use Rattle.nona_affine.proofs.Putting.{none_behind, none_inside, some_inside}
+use Rattle.nona_affine.proofs.Putting.{combined, none_behind, none_inside, some_inside}
 use Rattle.nona_affine.proofs.of_expr.+put_form.Goals as goal
 
 pub returns-then-not-branch-2 : goal.returns-then-not-branch-2
@@ -31,14 +31,14 @@ returns-else-not-branch-3 t c =
     let start = c.args.forms.now.items in
     let first = c.put_form-in-Binary.new.forms.items in
     let second = c.put_form-in-Binary-2.new.forms.items in
-    let last = c.combine_last.new.forms.items in
+    let last = c.perform-in-Binary.new.forms.items in
     let is =
     ap (λ e. form_of e ns) b.is ∙ form-Binary b.op b.at b.left b.right ns
     ∙ ap (λ e. on_form (form_of e ns) (λ f. on_form (form_of b.right ns) (λ g. form_by b.op f g))) (sym c.get-in-Binary.ensures)
     ∙ ap (λ e. on_form (form_of c.get-in-Binary.result.now ns) (λ f. on_form (form_of e ns) (λ g. form_by b.op f g))) (sym c.get-in-Binary-2.ensures) in
-    subst (λ o. IfOk c.combine_last.result (IsPut o start last)) (sym is)
-    (some_inside (form_of c.get-in-Binary.result.now ns) (λ f. on_form (form_of c.get-in-Binary-2.result.now ns) (λ g. form_by b.op f g)) start start first last c.in_ok-put_form-in-Binary.field-0 c.combine_last.result
+    subst (λ o. IfOk c.perform-in-Binary.result (IsPut o start last)) (sym is)
+    (some_inside (form_of c.get-in-Binary.result.now ns) (λ f. on_form (form_of c.get-in-Binary-2.result.now ns) (λ g. form_by b.op f g)) start start first last c.in_ok-put_form-in-Binary.field-0 c.perform-in-Binary.result
     c.if-not-branch-2.false c.in_ok-put_form-in-Binary.ensures
-    (λ f h. some_inside (form_of c.get-in-Binary-2.result.now ns) (λ g. form_by b.op f g) start first second last c.in_ok-put_form-in-Binary-2.field-0 c.combine_last.result
+    (λ f h. some_inside (form_of c.get-in-Binary-2.result.now ns) (λ g. form_by b.op f g) start first second last c.in_ok-put_form-in-Binary-2.field-0 c.perform-in-Binary.result
     c.if-not-branch-3.false c.in_ok-put_form-in-Binary-2.ensures
-    (λ g k. c.combine_last.ensures start f g (k ∙ ap (λ xs. xs ++ g ∷ []) h))))
+    (λ g k. combined c.perform-in-Binary.result b.op ns second last c.perform-in-Binary.ensures start f g (k ∙ ap (λ xs. xs ++ g ∷ []) h))))

@@ -9,7 +9,6 @@ returns-clause-sound c =
     let count = count_is n c.args.workers c.args.reductions.now refl refl c.in_ok-tasks.ensures.tasks in
     record {
       room = c.in_ok-tasks.ensures.room;
-      cells = c.in_ok-tasks.ensures.cells;
       fits = c.requires.indices;
       few = subst (λ (k : ℕ). c.args.iterations.limit * (1 + length c.args.iterations.units.now.body) + (1 + k) < 2 ^ 64) (sym count) c.requires.few;
       net = shared_begun n c.args.workers c.args.reductions.now refl refl c.in_ok-tasks.ensures.tasks;

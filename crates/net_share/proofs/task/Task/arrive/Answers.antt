@@ -1,9 +1,8 @@
-use Rattle.std.proofs.Common.{◌∙◌, Bool, ap, subst, sym, arith, length, if◌then◌else◌}
+use Rattle.std.proofs.Common.{◌∙◌, Bool, ap, sym, arith, length, if◌then◌else◌}
 use Rattle.net_flow.specs.Flow.{Unit_at}
 use Rattle.net_flow.specs.Net.{Task, leaves}
-use Rattle.nona_store.specs.Overlays.{HasCells, over_of}
 use Rattle.nona_tree.specs.Memory.{Memory}
-use Rattle.net_share.specs.Tasks.{TaskView, task_over}
+use Rattle.net_share.specs.Tasks.{task_over}
 use Rattle.net_share.specs.Works.{doing, task_work}
 use Rattle.net_share.proofs.Moves.{not_below}
 use Rattle.net_share.proofs.task.Task.arrive.Goals as goal
@@ -16,7 +15,3 @@ returns-else-unit-count-clause-task c =
     let past = not_below u (length c.args.iterations.now.units.now.body) (omega (arith, c.if-unit-count.false, c.count.ensures)) in
     c.leave.ensures.task c.args.iterations.now
     ∙ ap (λ (q : Bool). let y : Task Memory = if q then record x { position = Unit_at u } else leaves work x in y) (sym past)
-
-pub returns-then-unit-count-clause-cells : goal.returns-then-unit-count-clause-cells
-returns-then-unit-count-clause-cells c =
-    subst (λ (x : TaskView). HasCells c.args.store.now (over_of x.share.written)) (sym c.self.view_is) c.requires.cells

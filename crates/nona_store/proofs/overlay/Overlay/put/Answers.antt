@@ -1,24 +1,33 @@
-use Rattle.std.proofs.Common.{◌≡◌, ℤ, List, sym, ap, subst, ◌∙◌, w64, of_z, to_z}
-use Rattle.std.specs.Prelude.{All}
-use Rattle.std.specs.Map.{values_of}
+use Rattle.std.proofs.Common.{◌≡◌, [], ◌∙◌, ap, slice_index_or, w64, to_z, of_z}
 use Rattle.std.proofs.lemmas.Int.{to_z-of_z}
-use Rattle.nona_tree.specs.Numbers.{IsI64}
-use Rattle.nona_store.specs.declared.overlay.Place.{Place}
-use Rattle.nona_store.specs.Overlays.{place_cmp, over_of, with_cell}
-use Rattle.nona_store.proofs.Overlaying.{all_inserted, put_over}
+use Rattle.std.proofs.lemmas.List.{get_or_read}
+use Rattle.std.proofs.lemmas.Result.{on_ok_weaker, on_err_weaker}
+use Rattle.nona_sparse.specs.Sparse.{at, with_at}
+use Rattle.nona_store.specs.Overlays.{over_of, with_cell}
+use Rattle.nona_store.proofs.Overlaying.{array_put, array_same}
 use Rattle.nona_store.proofs.overlay.Overlay.put.Goals as goal
-
-pub invariant_of-self-2 : goal.invariant_of-self-2
-invariant_of-self-2 c =
-    let same : to_z w64 (of_z w64 c.args.value) ≡ c.args.value = to_z-of_z w64 c.args.value c.ranges.value in
-    subst (λ es. All IsI64 (values_of es)) (sym c.in_ok-insert.ensures.entries)
-    (all_inserted IsI64 place_cmp c.self.inside.cells.entries (record { array = c.args.array; index = c.args.index }) (to_z w64 (of_z w64 c.args.value))
-    (subst IsI64 (sym same) c.ranges.value) c.self.invariant)
 
 pub returns-clause-ok : goal.returns-clause-ok
 returns-clause-ok c =
-    let same : to_z w64 (of_z w64 c.args.value) ≡ c.args.value = to_z-of_z w64 c.args.value c.ranges.value in
-    let cells = c.self.inside.cells.entries in
-    put_over c.insert.new.self.entries cells c.args.array c.args.index (to_z w64 (of_z w64 c.args.value)) c.in_ok-insert.ensures.updates.0
-    ∙ ap (λ (v : ℤ). with_cell c.args.array c.args.index v (over_of cells)) same
-    ∙ ap (λ (m : List (Place × ℤ)). with_cell c.args.array c.args.index c.args.value (over_of m)) c.self.view_is
+    let arrays = c.add_arrays.new.arrays.items in
+    let id = c.args.array in
+    let place = c.args.index in
+    let v = c.args.value in
+    let within = c.in_ok-add_arrays.ensures.there in
+    let own : c.index_mut.result.now ≡ slice_index_or arrays id [] = get_or_read arrays id c.index_mut.result.now within c.index_mut.ensures.value [] in
+    on_ok_weaker c.put.result
+    (λ (put : at c.put.new.self ≡ with_at place (to_z w64 (of_z w64 v)) (at c.index_mut.result.now)).
+    array_put arrays id place v c.put.new.self within (put ∙ (λ i. with_at place (to_z-of_z w64 v c.ranges.value i) (at (own i))))
+    ∙ ap (with_cell id place v) (c.add_arrays.ensures.same ∙ ap over_of c.self.view_is))
+    c.put.ensures.ok
+
+pub returns-clause-err : goal.returns-clause-err
+returns-clause-err c =
+    let arrays = c.add_arrays.new.arrays.items in
+    let id = c.args.array in
+    let within = c.in_ok-add_arrays.ensures.there in
+    let own : c.index_mut.result.now ≡ slice_index_or arrays id [] = get_or_read arrays id c.index_mut.result.now within c.index_mut.ensures.value [] in
+    on_err_weaker c.put.result
+    (λ (same : at c.put.new.self ≡ at c.index_mut.result.now).
+    array_same arrays id c.put.new.self within (same ∙ ap at own) ∙ c.add_arrays.ensures.same ∙ ap over_of c.self.view_is)
+    c.put.ensures.err

@@ -1,4 +1,4 @@
-use Rattle.std.proofs.Common.{◌≡◌, ◌<◌, length, sym, ap, subst, ◌∙◌}
+use Rattle.std.proofs.Common.{◌<◌, length, sym, ap, subst, ◌∙◌}
 use Rattle.nona_tree.specs.Memory.{cells_of}
 use Rattle.nona_store.specs.Overlays.{over_of}
 use Rattle.nona_store.specs.Shares.{BankView, shared}

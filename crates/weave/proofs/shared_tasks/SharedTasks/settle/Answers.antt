@@ -15,11 +15,11 @@ use Rattle.weave.proofs.shared_tasks.SharedTasks.settle.Goals as goal
 pub moves-requires-clause-over : goal.moves-requires-clause-over
 moves-requires-clause-over c = over_is c.args.self c.requires.sound c.requires.over
 
-pub settle-requires-clause-over : goal.settle-requires-clause-over
-settle-requires-clause-over c = over_is c.args.self c.requires.sound c.requires.over
+pub settle-store-requires-clause-over : goal.settle-store-requires-clause-over
+settle-store-requires-clause-over c = over_is c.args.self c.requires.sound c.requires.over
 
-pub settle-requires-clause-there : goal.settle-requires-clause-there
-settle-requires-clause-there c =
+pub settle-store-requires-clause-there : goal.settle-store-requires-clause-there
+settle-store-requires-clause-there c =
     let t = c.args.self in
     let s = c.requires.sound in
     let l = t.entry.now.looped in
@@ -27,8 +27,8 @@ settle-requires-clause-there c =
     subst (λ (rs : List (ℕ × Fold)). AreThere rs m.scalars) (sym s.reductions)
     (c.reductions_stand.ensures.there l m.scalars (index_there t.entry.now (done_before t) m s.entered s.store))
 
-pub settle-requires-clause-apart : goal.settle-requires-clause-apart
-settle-requires-clause-apart c =
+pub settle-store-requires-clause-apart : goal.settle-store-requires-clause-apart
+settle-store-requires-clause-apart c =
     subst AreApart (sym c.requires.sound.reductions) (c.reductions_stand.ensures.apart c.args.self.entry.now.looped)
 
 pub returns : goal.returns
@@ -38,7 +38,7 @@ returns c =
     let e = t.entry.now in
     let b = done_before t in
     let net = net_of t.sharing in
-    let m = c.in_ok-store.store in
+    let m = c.settle-store.result in
     let sent : to_z w64 (of_z w64 c.offset-to.result) ≡ c.offset-to.result = to_z-of_z w64 c.offset-to.result (record { sfits = c.offset-to.type_inv }) in
     let from : to_z w64 (of_z w64 t.from) ≡ t.from = to_z-of_z w64 t.from (first_fits t.from (s.fits 0 (omega arith))) in
     let to : to_z w64 (of_z w64 c.offset-to.result) ≡ e.low +ℤ pos (b + net.granted) =
@@ -52,5 +52,5 @@ returns c =
     in (
       ran,
       refl,
-      c.sharing_settles.ensures.settled (loop_of e) b net.limit (workers_of t) net m s.may s.net (over_in t c.requires.over) (settled_in t m s c.in_ok-store.ensures),
+      c.sharing_settles.ensures.settled (loop_of e) b net.limit (workers_of t) net m s.may s.net (over_in t c.requires.over) (settled_in t m s c.settle-store.ensures),
     )

@@ -1,5 +1,4 @@
-use Rattle.std.proofs.Common.{◌≡◌, List, Result, Ok, Err, drop, sym, ap, ◌∙◌}
-use Rattle.std.specs.Result.{IfOk}
+use Rattle.std.proofs.Common.{◌≡◌, List, drop, sym, ap, ◌∙◌}
 use Rattle.morta_task.specs.declared.intervals.Handoff.{Handoff}
 use Rattle.morta_task.specs.declared.intervals.Ran.{Ran}
 use Rattle.weave.specs.declared.script.Command.{Command}
@@ -10,11 +9,6 @@ use Rattle.weave.specs.WeaveView.{WeaveView}
 use Rattle.weave.proofs.Intervals.{IsInterval, is_interval}
 use Rattle.weave.proofs.Keeping.{out_is_over}
 use Rattle.weave.proofs.weaving.Weave.run.Goals as goal
-
--- what follows from what stands of a value
-so : {T E : Type 0} (P Q : T → Type 0) (r : Result T E) → ((x : T) → P x → Q x) → IfOk r P → IfOk r Q
-so P Q (Ok x) on h = on x h
-so P Q (Err e) on h = tt
 
 -- the interval has run out
 interval : (c : goal.After-settle) (r : Handoff × Ran) → EndsWith (view_of c.run_out.new.self) r.1 r.0
@@ -38,18 +32,15 @@ pub settle-requires-clause-over : goal.settle-requires-clause-over
 settle-requires-clause-over c = out_is_over machine _ (view_of c.run_out.new.self) c.in_ok-run_out.ensures.net
 
 pub returns-clause-done : goal.returns-clause-done
-returns-clause-done c = so _ _ c.settle.result (λ r ends. (interval c r ends).did) c.settle.ensures
+returns-clause-done c = (interval c c.settle.result c.settle.ensures).did
 
 pub returns-clause-hands_on : goal.returns-clause-hands_on
-returns-clause-hands_on c = so _ _ c.settle.result (λ r ends. (interval c r ends).hands_on) c.settle.ensures
+returns-clause-hands_on c = (interval c c.settle.result c.settle.ensures).hands_on
 
 pub returns-clause-replayed : goal.returns-clause-replayed
-returns-clause-replayed c = so _ _ c.settle.result (λ r ends. (interval c r ends).replayed) c.settle.ensures
+returns-clause-replayed c = (interval c c.settle.result c.settle.ensures).replayed
 
 pub returns-clause-left : goal.returns-clause-left
 returns-clause-left c =
-    so _ _ c.settle.result
-    (λ r ends.
-    let left = ap (drop c.in_ok-self-inside.field-0) (sym c.deref.ensures.value) ∙ sym (interval c r ends).leaves in
-    λ i. record { script = (c.self.view_is i).script; left = left i; current = (c.self.view_is i).current; capacity = (c.self.view_is i).capacity })
-    c.settle.ensures
+    let left = ap (drop c.in_ok-self-inside.field-0) (sym c.deref.ensures.value) ∙ sym (interval c c.settle.result c.settle.ensures).leaves in
+    λ i. record { script = (c.self.view_is i).script; left = left i; current = (c.self.view_is i).current; capacity = (c.self.view_is i).capacity }

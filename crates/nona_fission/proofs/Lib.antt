@@ -1,0 +1,11 @@
+pub mod Named
+pub mod Ties
+pub mod Thread
+pub mod Units
+pub mod Portion
+pub mod Turns
+pub mod Spared
+pub mod Together
+pub mod Partials
+pub mod Examples
+pub mod Added

@@ -1,0 +1,119 @@
+ghost use Rattle.std.specs.Prelude.{◌≡◌, ◌==◌, ◌<◌, ◌≤◌, [], ℕ, length, true, None, All, FitsSigned, OnOk, OnErr};
+ghost use Rattle.std.specs.Int.{w64};
+ghost use Rattle.nona_sparse.specs.Sparse.{at, with_at, changes, cells_under};
+
+use crate::page::{PAGE, PAGES, Page};
+use std::alloc::{AllocError, Global};
+use std::marker::Model;
+
+/// The most places of a sparse array: 4,194,304.
+pub const PLACES: usize = PAGES * PAGE;
+
+/// Values of 64 bits that are written over the cells of an array and aren't in it yet. Contracts see its pages: for each place the
+/// value that was last put there, if any was (`at`). It takes memory for the pages in which values were put, each up to its last
+/// such place, and a few words for each page before them.
+#[derive(Drop)]
+pub struct SparseArray {
+    pages: Vec<Page>,
+}
+
+impl Model for SparseArray {
+    ghost use Rattle.std.specs.Prelude.{ℤ, List, Option, length, ◌≤◌};
+    ghost use Rattle.nona_sparse.specs.declared.page.TheConstants.{PAGES};
+
+    ghost Value = { List (List (Option ℤ)) };
+
+    ghost view = { λ s. s.pages.items };
+
+    ghost invariant = { λ s. length s.pages.items ≤ PAGES };
+}
+
+// Adds pages, all empty, until there is the one with this index: none where it is there already. Where memory runs out, there may
+// be some more.
+fn add_pages(alloc: Global, pages: &mut Vec<Page>, index: usize) -> Result<(), AllocError>
+    requires few { length pages.old.items ≤ PAGES }
+    requires index { index < PAGES }
+    ensures same { at pages.new.items ≡ at pages.old.items }
+    ensures few { length pages.new.items ≤ PAGES }
+    ensures there { OnOk result (index < length pages.new.items) }
+{
+    for _ in pages.len()..index + 1 {
+        pages.push(Page::begin(alloc))?;
+    }
+    Ok(())
+}
+
+// Leaves of the pages' values those that the array's cells don't have.
+fn keep_left(pages: &mut Vec<Page>, cells: &[i64])
+    requires { length pages.old.items ≤ PAGES }
+    ensures long { length pages.new.items ≡ length pages.old.items }
+    ensures left { at pages.new.items ≡ changes cells.now (at pages.old.items) }
+{
+    for index in 0..pages.len() {
+        pages[index].keep_changes(index, cells);
+    }
+}
+
+impl SparseArray {
+    /// A sparse array without values. Takes no memory.
+    pub fn begin(alloc: Global) -> SparseArray
+        ensures { result ≡ [] }
+    {
+        SparseArray {
+            pages: Vec::new(alloc),
+        }
+    }
+
+    /// Whether it has no page; then no place has a value.
+    pub fn is_empty(&self) -> bool
+        ensures value { result ≡ (length self.now == 0) }
+        ensures none { result ≡ true → (place : ℕ) → at self.now place ≡ None }
+    {
+        self.pages.is_empty()
+    }
+
+    /// The value that was put at this place, if any was. Takes constant time.
+    pub fn get(&self, place: usize) -> Option<i64>
+        ensures { result ≡ at self.now place }
+    {
+        let index = place / PAGE;
+        if index >= self.pages.len() {
+            return None;
+        }
+        self.pages[index].get(place % PAGE)
+    }
+
+    /// Puts a value at this place, in place of one that was there. Takes constant time, but where the place's page has to be made
+    /// or made longer: then it may take up to 4,096 empty pages and 1,024 places, which are there from then on. Where memory runs
+    /// out, each place has what it had.
+    pub fn put(&mut self, place: usize, value: i64) -> Result<(), AllocError>
+        requires { place < PLACES }
+        ensures ok { OnOk result (at self.new ≡ with_at place value (at self.old)) }
+        ensures err { OnErr result (at self.new ≡ at self.old) }
+    {
+        let index = place / PAGE;
+        let alloc = *self.pages.allocator();
+        add_pages(alloc, &mut self.pages, index)?;
+        let page = &mut self.pages[index];
+        page.put(place % PAGE, value)
+    }
+
+    /// Forgets each value that the array's cell at its place has already. Takes no memory, and a time in proportion to the places
+    /// of its pages.
+    pub fn keep_changes(&mut self, cells: &[i64])
+        ensures { at self.new ≡ changes cells.now (at self.old) }
+    {
+        keep_left(&mut self.pages, cells);
+    }
+
+    /// Gives each of an array's cells the value at its place, where one is. Values behind the array's end are left out, and cells of
+    /// 64 bits stay such. Takes no memory, and a time in proportion to the places of its pages.
+    pub fn write_to(&self, cells: &mut [i64])
+        ensures cells { cells.new ≡ cells_under (at self.now) 0 cells.old }
+        ensures numbers { All (FitsSigned w64) cells.old → All (FitsSigned w64) cells.new }
+    {
+        for index in 0..self.pages.len() {
+            self.pages[index].write_to(index, cells);
+        }
+    }
+}
