@@ -1,5 +1,5 @@
--- The commands of a script: their numbers are in range, and they ask for `seq` and `any` alone.
-use Rattle.std.proofs.Common.{◌≡◌, ◌⊎◌, inl, inr, ℕ, zero, suc, ◌+◌, ◌≤◌, List, [], ◌∷◌, codes, refl, subst, arith, None, Some, Ok, Err}
+-- The commands of a script: their numbers are in range.
+use Rattle.std.proofs.Common.{◌≡◌, ℕ, zero, suc, ◌+◌, ◌≤◌, List, [], ◌∷◌, codes, refl, arith, None, Some, Ok, Err}
 use Rattle.std.specs.Prelude.{All}
 use Rattle.std.specs.declared.option.Option.{Option}
 use Rattle.std.specs.declared.result.Result.{Result}
@@ -13,22 +13,17 @@ use Rattle.nona_text.proofs.Numbers.{within}
 use Rattle.weave.specs.declared.script.Command.{Command}
 use Rattle.weave.specs.declared.script.Command.TheVariants.{Use, Step, Pause}
 use Rattle.weave.specs.Following.{IsUntil, IsCommand, AreCommands}
-use Rattle.weave.specs.Replay.{UsesScheme}
 use Rattle.weave.specs.declared.limits.TheConstants.{LAST_TASK, MOVES}
 use Rattle.morta_task.specs.declared.limits.TheConstants.{TURNS, WORKERS}
 use Rattle.morta_task.specs.declared.schemes.Config.{Config}
 use Rattle.morta_task.specs.declared.schemes.Scheme.{Scheme}
-use Rattle.morta_task.specs.declared.schemes.Scheme.TheVariants.{Seq, Any}
+use Rattle.morta_task.specs.declared.schemes.Scheme.TheVariants.{Seq, Any, Pipe}
 use Rattle.morta_task.specs.Running.{HasWorkers, IsConfig}
 use Rattle.morta_script.specs.Lines.{Line, Nothing, Says, Wrong, words_of, is_comment, config_with, config_of, until_line, after_config, with_config, after_use, step_line, after_step, after_pause, line_named, line_by, then_commands, with_line, commands_from, commands_of, command_bound}
 
--- a version that a script may name
-abbrev pub IsNamed : Scheme → Type 0
-IsNamed s = (s ≡ Seq) ⊎ (s ≡ Any)
-
 -- what is true of each command that a line may have
 record OfLines (P : Command → Type 0) : Type 0 where
-  uses : (config : Config) (until : Option ℕ) → IsConfig config → IsNamed config.scheme → IsUntil until → P (Use config until)
+  uses : (config : Config) (until : Option ℕ) → IsConfig config → IsUntil until → P (Use config until)
   steps : (task moves : ℕ) → task ≤ LAST_TASK → 1 ≤ moves → moves ≤ MOVES → P (Step task moves)
   pauses : P Pause
 
@@ -38,44 +33,45 @@ IsFine P Nothing = Unit {0}
 IsFine P (Says c) = P c
 IsFine P Wrong = Unit {0}
 
--- a configuration, if there is one, is as it may be, and a script may name its version
+-- a configuration, if there is one, is as it may be
 abbrev MayBe : Option Config → Type 0
 MayBe None = Unit {0}
-MayBe (Some config) = IsConfig config × IsNamed config.scheme
+MayBe (Some config) = IsConfig config
 
-with_named : (scheme : Scheme) (o : Option ℕ) → IsNamed scheme → ((n : ℕ) → o ≡ Some n → HasWorkers scheme n) → MayBe (config_with scheme o)
-with_named scheme None named h = tt
-with_named scheme (Some n) named h = (h n refl, named)
+with_in_range : (scheme : Scheme) (o : Option ℕ) → ((n : ℕ) → o ≡ Some n → HasWorkers scheme n) → MayBe (config_with scheme o)
+with_in_range scheme None h = tt
+with_in_range scheme (Some n) h = h n refl
 
-config_named : (scheme workers : List ℕ) → MayBe (config_of scheme workers)
-config_named scheme workers =
+config_in_range : (scheme workers : List ℕ) → MayBe (config_of scheme workers)
+config_in_range scheme workers =
     cond_both (bytes_eq scheme (codes "seq")) (config_with Seq (number_within 1 1 workers)) _ MayBe
-    (λ e. with_named Seq (number_within 1 1 workers) (inl refl) (λ n e'. omega (arith, within 1 1 workers n e')))
-    (λ e. cond_both (bytes_eq scheme (codes "any")) (config_with Any (number_within 1 WORKERS workers)) None MayBe
-    (λ e'. with_named Any (number_within 1 WORKERS workers) (inr refl) (within 1 WORKERS workers)) (λ e'. tt))
+    (λ e. with_in_range Seq (number_within 1 1 workers) (λ n e'. omega (arith, within 1 1 workers n e')))
+    (λ e. cond_both (bytes_eq scheme (codes "any")) (config_with Any (number_within 1 WORKERS workers)) _ MayBe
+    (λ e'. with_in_range Any (number_within 1 WORKERS workers) (within 1 WORKERS workers))
+    (λ e'. cond_both (bytes_eq scheme (codes "pipe")) (config_with Pipe (number_within 1 WORKERS workers)) None MayBe
+    (λ e''. with_in_range Pipe (number_within 1 WORKERS workers) (within 1 WORKERS workers)) (λ e''. tt)))
 
-until_fine : (P : Command → Type 0) (config : Config) (o : Option ℕ) → OfLines P → IsConfig config → IsNamed config.scheme
+until_fine : (P : Command → Type 0) (config : Config) (o : Option ℕ) → OfLines P → IsConfig config
     → ((n : ℕ) → o ≡ Some n → (1 ≤ n) × (n ≤ TURNS)) → IsFine P (until_line config o)
-until_fine P config None lines has named h = tt
-until_fine P config (Some n) lines has named h = lines.uses config (Some n) has named (h n refl)
+until_fine P config None lines has h = tt
+until_fine P config (Some n) lines has h = lines.uses config (Some n) has (h n refl)
 
-after_fine : (P : Command → Type 0) (config : Config) (words : List (List ℕ)) → OfLines P → IsConfig config → IsNamed config.scheme
-    → IsFine P (after_config config words)
-after_fine P config [] lines has named = lines.uses config None has named tt
-after_fine P config (word ∷ []) lines has named = tt
-after_fine P config (word ∷ k ∷ []) lines has named =
+after_fine : (P : Command → Type 0) (config : Config) (words : List (List ℕ)) → OfLines P → IsConfig config → IsFine P (after_config config words)
+after_fine P config [] lines has = lines.uses config None has tt
+after_fine P config (word ∷ []) lines has = tt
+after_fine P config (word ∷ k ∷ []) lines has =
     cond_both (bytes_eq word (codes "until")) (until_line config (number_within 1 TURNS k)) Wrong (IsFine P)
-    (λ e. until_fine P config (number_within 1 TURNS k) lines has named (within 1 TURNS k)) (λ e. tt)
-after_fine P config (word ∷ k ∷ more ∷ words) lines has named = tt
+    (λ e. until_fine P config (number_within 1 TURNS k) lines has (within 1 TURNS k)) (λ e. tt)
+after_fine P config (word ∷ k ∷ more ∷ words) lines has = tt
 
 config_fine : (P : Command → Type 0) (o : Option Config) (words : List (List ℕ)) → OfLines P → MayBe o → IsFine P (with_config o words)
 config_fine P None words lines may = tt
-config_fine P (Some config) words lines may = after_fine P config words lines may.0 may.1
+config_fine P (Some config) words lines may = after_fine P config words lines may
 
 use_fine : (P : Command → Type 0) (words : List (List ℕ)) → OfLines P → IsFine P (after_use words)
 use_fine P [] lines = tt
 use_fine P (scheme ∷ []) lines = tt
-use_fine P (scheme ∷ workers ∷ words) lines = config_fine P (config_of scheme workers) words lines (config_named scheme workers)
+use_fine P (scheme ∷ workers ∷ words) lines = config_fine P (config_of scheme workers) words lines (config_in_range scheme workers)
 
 moves_fine : (P : Command → Type 0) (task moves : Option ℕ) → OfLines P → ((n : ℕ) → task ≡ Some n → n ≤ LAST_TASK)
     → ((n : ℕ) → moves ≡ Some n → (1 ≤ n) × (n ≤ MOVES)) → IsFine P (step_line task moves)
@@ -134,26 +130,7 @@ all_so P text commands lines e =
 pub in_range : (text : List ℕ) (commands : List Command) → commands_of text ≡ Ok commands → AreCommands commands
 in_range text commands =
     all_so IsCommand text commands (record {
-      uses = λ config until has named cut. (has, cut);
+      uses = λ config until has cut. (has, cut);
       steps = λ task moves last some few. (last, some, few);
       pauses = tt;
     })
-
--- a command that, where it is a `use`, names a version that a script may name
-abbrev Names : Command → Type 0
-Names (Use config until) = IsNamed config.scheme
-Names (Step task moves) = Unit {0}
-Names Pause = Unit {0}
-
--- a script asks for no other version
-pub versions_named : (text : List ℕ) (commands : List Command) (s : Scheme) → commands_of text ≡ Ok commands → UsesScheme commands s → IsNamed s
-versions_named text commands s e (config, until, (at, within, is), names) =
-    let all =
-    all_so Names text commands (record {
-      uses = λ config until has named cut. named;
-      steps = λ task moves last some few. tt;
-      pauses = tt;
-    }) e
-    in
-    let here : Names (Use config until) = subst Names is (all at (Use config until) within) in
-    subst IsNamed names here

@@ -8,7 +8,7 @@ use Rattle.nona_text.specs.Digits.{number_within}
 use Rattle.morta_task.specs.declared.limits.TheConstants.{TURNS, WORKERS}
 use Rattle.morta_task.specs.declared.schemes.Config.{Config}
 use Rattle.morta_task.specs.declared.schemes.Scheme.{Scheme}
-use Rattle.morta_task.specs.declared.schemes.Scheme.TheVariants.{Seq, Any}
+use Rattle.morta_task.specs.declared.schemes.Scheme.TheVariants.{Seq, Any, Pipe}
 use Rattle.weave.specs.declared.limits.TheConstants.{LAST_TASK, MOVES}
 use Rattle.morta_script.specs.declared.limits.TheConstants.{COMMANDS}
 use Rattle.weave.specs.declared.script.Command.{Command}
@@ -34,11 +34,12 @@ abbrev pub config_with : Scheme → Option ℕ → Option Config
 config_with scheme None = None
 config_with scheme (Some workers) = Some (record { scheme = scheme; workers = workers })
 
--- the configuration that two words are: `seq` with 1, or `any` with a number from 1 to the most workers
+-- the configuration that two words are: `seq` with 1, or `any` or `pipe` with a number from 1 to the most workers
 abbrev pub config_of : List ℕ → List ℕ → Option Config
 config_of scheme workers =
     if bytes_eq scheme (codes "seq") then config_with Seq (number_within 1 1 workers)
-    else if bytes_eq scheme (codes "any") then config_with Any (number_within 1 WORKERS workers) else None
+    else if bytes_eq scheme (codes "any") then config_with Any (number_within 1 WORKERS workers)
+    else if bytes_eq scheme (codes "pipe") then config_with Pipe (number_within 1 WORKERS workers) else None
 
 -- a configuration until so many iterations, where they are a number from 1 to the most turns of a loop
 abbrev pub until_line : Config → Option ℕ → Line

@@ -50,6 +50,8 @@ fn config_of(scheme: &[u8], workers: &[u8]) -> Option<Config>
         config_with(Scheme::Seq, 1, workers)
     } else if scheme == b"any".as_slice() {
         config_with(Scheme::Any, WORKERS, workers)
+    } else if scheme == b"pipe".as_slice() {
+        config_with(Scheme::Pipe, WORKERS, workers)
     } else {
         None
     }

@@ -1,8 +1,5 @@
-ghost use Rattle.std.specs.Prelude.{◌≡◌, ◌⊎◌, ◌≤◌, ◌^◌, ℕ, length, Ok, Err, IfOk, MatchResult};
-ghost use Rattle.morta_task.specs.declared.schemes.Scheme.{Scheme};
-ghost use Rattle.morta_task.specs.declared.schemes.Scheme.TheVariants.{Seq, Any};
+ghost use Rattle.std.specs.Prelude.{◌≡◌, ◌≤◌, ◌^◌, ℕ, length, Ok, Err, IfOk, MatchResult};
 ghost use Rattle.weave.specs.Following.{AreCommands};
-ghost use Rattle.weave.specs.Replay.{UsesScheme};
 ghost use Rattle.morta_script.specs.Lines.{commands_of, line_by, words_of};
 ghost use Rattle.morta_script.specs.Turns.{with_kind};
 
@@ -52,15 +49,14 @@ fn add_line(commands: &mut Vec<Command>, number: u32, line: &[u8]) -> Result<(),
 /// The script of a text of at most 1,048,576 bytes.
 ///
 /// A line ends with LF, the last one possibly with the text; a CR before that end is dropped. Its words stand between
-/// spaces and tabs. A line is blank, a comment, whose first word begins with `#`, or one of `use seq 1`, `use any W`, each
-/// possibly with `until K` behind it, `step T N` and `pause`, where W is from 1 to 16, K from 1 to 1,000,000,000,000, T from
-/// 0 to 255 and N from 1 to 1,000,000. A number has 1 to 13 digits, also leading zeros. The first line that is none of these
-/// is refused, and that of the 65,537th command. Takes time and memory in proportion to the text.
+/// spaces and tabs. A line is blank, a comment, whose first word begins with `#`, or one of `use seq 1`, `use any W` and
+/// `use pipe W`, each possibly with `until K` behind it, `step T N` and `pause`, where W is from 1 to 16, K from 1 to
+/// 1,000,000,000,000, T from 0 to 255 and N from 1 to 1,000,000. A number has 1 to 13 digits, also leading zeros. The first
+/// line that is none of these is refused, and that of the 65,537th command. Takes time and memory in proportion to the text.
 pub fn read_script(alloc: Global, text: &[u8]) -> Result<Script, ScriptFault>
     requires { length text.now ≤ 2 ^ 20 }
     ensures script { IfOk result (λ script. commands_of text.now ≡ Ok script.commands.items) }
     ensures valid { IfOk result (λ script. AreCommands script.commands.items) }
-    ensures versions { IfOk result (λ script. (s : Scheme) → UsesScheme script.commands.items s → (s ≡ Seq) ⊎ (s ≡ Any)) }
     ensures refused { (line : ℕ) → result ≡ Err (ScriptFault.Line line) → commands_of text.now ≡ Err line }
 {
     let mut commands = Vec::new(alloc);

@@ -3,7 +3,7 @@ use Rattle.std.proofs.Common.{◌≡◌, ℕ, zero, suc, ◌+◌, ◌<◌, ◌�
 use Rattle.std.proofs.lemmas.Bool.{cases_eq}
 use Rattle.net_flow.specs.Sharing.{claimed_by}
 use Rattle.nona_parts.specs.Sharing.{owned_below}
-use Rattle.nona_parts.proofs.Together.{self_same}
+use Rattle.nona_parts.proofs.Untied.{same_number}
 
 -- the task that claimed an iteration, where these tasks claimed the first ones, the last one first, and this one claims all others
 abbrev pub owner_or : ℕ → List ℕ → ℕ → ℕ
@@ -14,7 +14,7 @@ not_same : (a b : ℕ) → (a ≡ b → ⊥) → (a == b) ≡ false
 not_same a b apart = grind arith
 
 owner_last : (other o : ℕ) (rest : List ℕ) → owner_or other (o ∷ rest) (length rest) ≡ o
-owner_last other o rest = ap (λ (b : Bool). if b then o else owner_or other rest (length rest)) (self_same (length rest))
+owner_last other o rest = ap (λ (b : Bool). if b then o else owner_or other rest (length rest)) (same_number (length rest))
 
 owner_apart : (other o : ℕ) (rest : List ℕ) (k : ℕ) → (k ≡ length rest → ⊥) → owner_or other (o ∷ rest) k ≡ owner_or other rest k
 owner_apart other o rest k apart = ap (λ (b : Bool). if b then o else owner_or other rest k) (not_same k (length rest) apart)
@@ -72,4 +72,4 @@ claims_next t cs =
     let before = claimed_is t cs t in
     let last = owner_past t cs (length cs) (omega arith) in
     (λ i. before i ++ (if last i == t then length cs ∷ [] else []))
-    ∙ ap (λ (b : Bool). claimed_by cs t ++ (if b then length cs ∷ [] else [])) (self_same t)
+    ∙ ap (λ (b : Bool). claimed_by cs t ++ (if b then length cs ∷ [] else [])) (same_number t)

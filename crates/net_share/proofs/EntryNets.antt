@@ -12,7 +12,7 @@ use Rattle.net_flow.proofs.SharingMachine.{sharing_keeps, sharing_pauses, sharin
 use Rattle.net_share.specs.Entries.{MayShare, IsWithin, IsEntryNet, begun_in, doing_in, entry_net, meaning_in, work_in}
 use Rattle.net_share.specs.Kept.{no_meaning}
 use Rattle.net_share.specs.May.{MayStep, MayStepAt}
-use Rattle.net_share.proofs.Keeping.{lawful as unsaid_lawful}
+use Rattle.net_share.proofs.Keeping.{any_work}
 use Rattle.net_share.proofs.SharedOut.{body_written, depth_behind, done_behind}
 use Rattle.net_share.proofs.UnitsLeft.{entered, may_run, unit_within, iteration_left}
 
@@ -95,4 +95,4 @@ module _ (e : Entry) (first W : ℕ) where
 pub moves_are : (e : Entry) (first limit W : ℕ) (net : Net Memory (Unit {0})) → IsEntryNet e first limit W net → is_over (net_machine (work_in e first W)) net ≡ true
     → moves_of net ≡ sharing_moves W (length e.looped.body) net.granted
 moves_are e first limit W net here over =
-    sharing_moved Memory (Unit {0}) (work_in e first W) no_meaning refl limit W (unsaid_lawful (doing_in e first) W limit) net (unsaid e first W limit net here) over
+    sharing_moved Memory (Unit {0}) (work_in e first W) no_meaning refl limit W (any_work (work_in e first W) limit) net (unsaid e first W limit net here) over

@@ -8,36 +8,13 @@ use Rattle.std.proofs.lemmas.Cmp.{int_eq_equiv}
 use Rattle.std.proofs.lemmas.List.{length-set, get_or_past, get_or-set_same, get_or-set_other, at_drop_more}
 use Rattle.nona_num.specs.declared.folds.Fold.{Fold}
 use Rattle.nona_num.specs.Folds.{join_of}
+use Rattle.nona_store.specs.Shares.{ShareView}
 use Rattle.nona_store.specs.Overlays.{over_of, under, changes_of}
 use Rattle.nona_store.proofs.Overlaying.{covered, as_long, as_many}
 use Rattle.nona_tree.specs.Memory.{Memory, scalar_at, cells_of, cell_at, assign}
 use Rattle.net_share.specs.Begins.{AreThere, AreApart}
 use Rattle.net_share.specs.Gathered.{views_of, AreLeft, with_written, with_changes, own_scalar, joined_with, with_joined, gathered}
 use Rattle.net_share.specs.Settled.{settled_cell, joined_all, IsSettledFrom}
-use Rattle.net_share.specs.Tasks.{TaskView}
-
--- cells
-
--- as many scalars, printed numbers, arrays and cells stand under what tasks have changed
-changes_scalars : (was m : Memory) (tasks : List TaskView) → (with_changes was tasks m).scalars ≡ m.scalars
-changes_scalars was m [] = refl
-changes_scalars was m (x ∷ rest) = changes_scalars was (under (changes_of was (over_of x.share.written)) m) rest
-
-changes_printed : (was m : Memory) (tasks : List TaskView) → (with_changes was tasks m).printed ≡ m.printed
-changes_printed was m [] = refl
-changes_printed was m (x ∷ rest) = changes_printed was (under (changes_of was (over_of x.share.written)) m) rest
-
-changes_many : (was m : Memory) (tasks : List TaskView) → length (with_changes was tasks m).arrays ≡ length m.arrays
-changes_many was m [] = refl
-changes_many was m (x ∷ rest) =
-    let over = changes_of was (over_of x.share.written) in
-    changes_many was (under over m) rest ∙ as_many over 0 m.arrays
-
-changes_long : (was m : Memory) (tasks : List TaskView) (a : ℕ) → length (cells_of (with_changes was tasks m) a) ≡ length (cells_of m a)
-changes_long was m [] a = refl
-changes_long was m (x ∷ rest) a =
-    let over = changes_of was (over_of x.share.written) in
-    changes_long was (under over m) rest a ∙ as_long m over a
 
 -- a number ties with itself
 ties_itself : (v : ℤ) → int_eq v v ≡ true
@@ -66,201 +43,226 @@ one_change m a p now (Some v) within =
     ap (λ (b : Bool). unwrap_or (if b then if int_eq v was then None else Some v else Some v) now) (is_below p (length (cells_of m a)) within)
     ∙ picked (int_eq v was) v now
 
--- a cell of the store that tasks have changed one after another is the last value that isn't what it was
-changed_cell : (was m : Memory) (tasks : List TaskView) (a p : ℕ) → p < length (cells_of was a) → p < length (cells_of m a)
-    → cell_at (with_changes was tasks m) a p ≡ settled_cell (cell_at was a p) (cell_at m a p) (map (λ (v : Memory). cell_at v a p) (views_of was tasks))
-changed_cell was m [] a p within inside = refl
-changed_cell was m (x ∷ rest) a p within inside =
-    let cell = cell_at was a p in
-    let now = cell_at m a p in
-    let written = over_of x.share.written in
-    let over = changes_of was written in
-    changed_cell was (under over m) rest a p within (subst (λ n. p < n) (sym (as_long m over a)) inside)
-    ∙ ap (λ (n : ℤ). settled_cell cell n (map (λ (v : Memory). cell_at v a p) (views_of was rest)))
-    (covered m over a p inside
-    ∙ one_change was a p now (written a p) within
-    ∙ ap (λ (v : ℤ). if int_eq v cell then now else v) (sym (covered was written a p within)))
-
 -- a place outside an array is as it was, under any overlay
 outside : (m : Memory) (over : ℕ → ℕ → Option ℤ) (a p : ℕ) → length (cells_of m a) ≤ p → cell_at (under over m) a p ≡ cell_at m a p
 outside m over a p past =
     get_or_past (cells_of (under over m) a) p (pos 0) (subst (λ n. n ≤ p) (sym (as_long m over a)) past)
     ∙ sym (get_or_past (cells_of m a) p (pos 0) past)
 
-outside_stays : (m : Memory) (tasks : List TaskView) (a p : ℕ) → length (cells_of m a) ≤ p
-    → settled_cell (cell_at m a p) (cell_at m a p) (map (λ (v : Memory). cell_at v a p) (views_of m tasks)) ≡ cell_at m a p
-outside_stays m [] a p past = refl
-outside_stays m (x ∷ rest) a p past =
-    let was = cell_at m a p in
-    ap (λ (now : ℤ). settled_cell was now (map (λ (v : Memory). cell_at v a p) (views_of m rest)))
-    (ap (λ (v : ℤ). if int_eq v was then was else v) (outside m (over_of x.share.written) a p past) ∙ same_either (int_eq was was) was)
-    ∙ outside_stays m rest a p past
-
--- each cell is settled
+-- a number is below another one or not
 below_or_past : (p n : ℕ) → (p < n) ⊎ (n ≤ p)
 below_or_past p zero = inr (omega arith)
 below_or_past zero (suc n) = inl (omega arith)
 below_or_past (suc p) (suc n) = ⊎_elim (λ (h : p < n). inl (omega (arith, h))) (λ (h : n ≤ p). inr (omega (arith, h))) (below_or_past p n)
 
-cells_settled : (m : Memory) (tasks : List TaskView) (a p : ℕ)
-    → cell_at (with_changes m tasks m) a p ≡ settled_cell (cell_at m a p) (cell_at m a p) (map (λ (v : Memory). cell_at v a p) (views_of m tasks))
-cells_settled m tasks a p =
-    ⊎_elim
-    (λ (within : p < length (cells_of m a)). changed_cell m m tasks a p within within)
-    (λ (past : length (cells_of m a) ≤ p).
-    get_or_past (cells_of (with_changes m tasks m) a) p (pos 0) (subst (λ n. n ≤ p) (sym (changes_long m m tasks a)) past)
-    ∙ sym (get_or_past (cells_of m a) p (pos 0) past) ∙ sym (outside_stays m tasks a p past))
-    (below_or_past p (length (cells_of m a)))
+-- tasks, each with its share of a store
+module _ {T : Type 0} (share : T → ShareView) where
+  -- as many scalars, printed numbers, arrays and cells stand under what tasks have changed
+  pub changes_scalars : (was m : Memory) (tasks : List T) → (with_changes share was tasks m).scalars ≡ m.scalars
+  changes_scalars was m [] = refl
+  changes_scalars was m (x ∷ rest) = changes_scalars was (under (changes_of was (over_of (share x).written)) m) rest
 
--- scalars
+  pub changes_printed : (was m : Memory) (tasks : List T) → (with_changes share was tasks m).printed ≡ m.printed
+  changes_printed was m [] = refl
+  changes_printed was m (x ∷ rest) = changes_printed was (under (changes_of was (over_of (share x).written)) m) rest
 
--- to join reductions changes scalars alone, and as many stand
-joined_arrays : (rs : List (ℕ × Fold)) (tasks : List TaskView) (m : Memory) → (with_joined rs tasks m).arrays ≡ m.arrays
-joined_arrays [] tasks m = refl
-joined_arrays (r ∷ rest) tasks m = joined_arrays rest tasks (assign r.0 (joined_with r.0 r.1 (scalar_at m r.0) tasks) m)
+  pub changes_many : (was m : Memory) (tasks : List T) → length (with_changes share was tasks m).arrays ≡ length m.arrays
+  changes_many was m [] = refl
+  changes_many was m (x ∷ rest) =
+      let over = changes_of was (over_of (share x).written) in
+      changes_many was (under over m) rest ∙ as_many over 0 m.arrays
 
-joined_printed : (rs : List (ℕ × Fold)) (tasks : List TaskView) (m : Memory) → (with_joined rs tasks m).printed ≡ m.printed
-joined_printed [] tasks m = refl
-joined_printed (r ∷ rest) tasks m = joined_printed rest tasks (assign r.0 (joined_with r.0 r.1 (scalar_at m r.0) tasks) m)
+  pub changes_long : (was m : Memory) (tasks : List T) (a : ℕ) → length (cells_of (with_changes share was tasks m) a) ≡ length (cells_of m a)
+  changes_long was m [] a = refl
+  changes_long was m (x ∷ rest) a =
+      let over = changes_of was (over_of (share x).written) in
+      changes_long was (under over m) rest a ∙ as_long m over a
 
-joined_depth : (rs : List (ℕ × Fold)) (tasks : List TaskView) (m : Memory) → length (with_joined rs tasks m).scalars ≡ length m.scalars
-joined_depth [] tasks m = refl
-joined_depth (r ∷ rest) tasks m =
-    let v = joined_with r.0 r.1 (scalar_at m r.0) tasks in
-    joined_depth rest tasks (assign r.0 v m) ∙ length-set m.scalars r.0 v
+  -- a cell of the store that tasks have changed one after another is the last value that isn't what it was
+  pub changed_cell : (was m : Memory) (tasks : List T) (a p : ℕ) → p < length (cells_of was a) → p < length (cells_of m a)
+      → cell_at (with_changes share was tasks m) a p ≡ settled_cell (cell_at was a p) (cell_at m a p) (map (λ (v : Memory). cell_at v a p) (views_of share was tasks))
+  changed_cell was m [] a p within inside = refl
+  changed_cell was m (x ∷ rest) a p within inside =
+      let cell = cell_at was a p in
+      let now = cell_at m a p in
+      let written = over_of (share x).written in
+      let over = changes_of was written in
+      changed_cell was (under over m) rest a p within (subst (λ n. p < n) (sym (as_long m over a)) inside)
+      ∙ ap (λ (n : ℤ). settled_cell cell n (map (λ (v : Memory). cell_at v a p) (views_of share was rest)))
+      (covered m over a p inside
+      ∙ one_change was a p now (written a p) within
+      ∙ ap (λ (v : ℤ). if int_eq v cell then now else v) (sym (covered was written a p within)))
 
--- a scalar that is no reduction is as it was
-joined_other : (rs : List (ℕ × Fold)) (tasks : List TaskView) (m : Memory) (id : ℕ) → ((f : Fold) → Contains rs (id, f) → ⊥)
-    → scalar_at (with_joined rs tasks m) id ≡ scalar_at m id
-joined_other [] tasks m id others = refl
-joined_other (r ∷ rest) tasks m id others =
-    let v = joined_with r.0 r.1 (scalar_at m r.0) tasks in
-    joined_other rest tasks (assign r.0 v m) id (λ f has. others f (suc has.0, omega (arith, has.1), has.2))
-    ∙ get_or-set_other m.scalars r.0 id v (pos 0) (λ (is : id ≡ r.0). others r.1 (0, omega arith, λ i. (sym is i, r.1)))
+  outside_stays : (m : Memory) (tasks : List T) (a p : ℕ) → length (cells_of m a) ≤ p
+      → settled_cell (cell_at m a p) (cell_at m a p) (map (λ (v : Memory). cell_at v a p) (views_of share m tasks)) ≡ cell_at m a p
+  outside_stays m [] a p past = refl
+  outside_stays m (x ∷ rest) a p past =
+      let was = cell_at m a p in
+      ap (λ (now : ℤ). settled_cell was now (map (λ (v : Memory). cell_at v a p) (views_of share m rest)))
+      (ap (λ (v : ℤ). if int_eq v was then was else v) (outside m (over_of (share x).written) a p past) ∙ same_either (int_eq was was) was)
+      ∙ outside_stays m rest a p past
 
--- and each reduction is joined
-joined_there : (rs : List (ℕ × Fold)) (tasks : List TaskView) (m : Memory) → AreApart rs → AreThere rs m.scalars → (k id : ℕ) (f : Fold) → k < length rs
-    → slice_index_or rs k (id, f) ≡ (id, f) → scalar_at (with_joined rs tasks m) id ≡ joined_with id f (scalar_at m id) tasks
-joined_there [] tasks m apart there k id f below is = absurd (omega (arith, below))
-joined_there (r ∷ rest) tasks m apart there zero id f below is =
-    let v = joined_with r.0 r.1 (scalar_at m r.0) tasks in
-    let own : scalar_at (with_joined (r ∷ rest) tasks m) r.0 ≡ v =
-    joined_other rest tasks (assign r.0 v m) r.0
-    (λ g has. apart 0 (suc has.0) (r.0, g) (omega arith) (omega (arith, has.1)) (sym (ap (λ (q : ℕ × Fold). q.0) has.2)))
-    ∙ get_or-set_same m.scalars r.0 v (pos 0) (there 0 r (omega arith))
-    in
-    subst (λ (q : ℕ × Fold). scalar_at (with_joined (r ∷ rest) tasks m) q.0 ≡ joined_with q.0 q.1 (scalar_at m q.0) tasks) is own
-joined_there (r ∷ rest) tasks m apart there (suc k) id f below is =
-    let v = joined_with r.0 r.1 (scalar_at m r.0) tasks in
-    let other : id ≢ r.0 =
-    λ (e : id ≡ r.0). apart 0 (suc k) (id, f) (omega arith) below (sym e ∙ sym (ap (λ (q : ℕ × Fold). q.0) is))
-    in
-    joined_there rest tasks (assign r.0 v m) (λ i j d less within. apart (suc i) (suc j) d (omega (arith, less)) (omega (arith, within)))
-    (λ j d within. subst (λ n. (slice_index_or rest j d).0 < n) (sym (length-set m.scalars r.0 v)) (there (suc j) d (omega (arith, within))))
-    k id f (omega (arith, below)) is
-    ∙ ap (λ (now : ℤ). joined_with id f now tasks) (get_or-set_other m.scalars r.0 id v (pos 0) other)
+  -- each cell is settled
+  pub cells_settled : (m : Memory) (tasks : List T) (a p : ℕ)
+      → cell_at (with_changes share m tasks m) a p ≡ settled_cell (cell_at m a p) (cell_at m a p) (map (λ (v : Memory). cell_at v a p) (views_of share m tasks))
+  cells_settled m tasks a p =
+      ⊎_elim
+      (λ (within : p < length (cells_of m a)). changed_cell m m tasks a p within within)
+      (λ (past : length (cells_of m a) ≤ p).
+      get_or_past (cells_of (with_changes share m tasks m) a) p (pos 0) (subst (λ n. n ≤ p) (sym (changes_long m m tasks a)) past)
+      ∙ sym (get_or_past (cells_of m a) p (pos 0) past) ∙ sym (outside_stays m tasks a p past))
+      (below_or_past p (length (cells_of m a)))
 
--- with the value of one more task
-pub joined_on : (id : ℕ) (f : Fold) (now : ℤ) (tasks : List TaskView) (i : ℕ) (x : TaskView) → i < length tasks → slice_index_or tasks i x ≡ x
-    → joined_with id f now (drop i tasks) ≡ joined_with id f (join_of f now (own_scalar id x)) (drop (i + 1) tasks)
-joined_on id f now tasks i x below is =
-    at_drop_more (λ (xs : List TaskView). joined_with id f now xs) tasks i x below
-    ∙ ap (λ (y : TaskView). joined_with id f (join_of f now (own_scalar id y)) (drop (i + 1) tasks)) is
+  -- scalars
 
--- with what the tasks saw
-joined_seen : (id : ℕ) (f : Fold) (now : ℤ) (m : Memory) (tasks : List TaskView)
-    → joined_with id f now tasks ≡ joined_all f now (map (λ (v : Memory). scalar_at v id) (views_of m tasks))
-joined_seen id f now m [] = refl
-joined_seen id f now m (x ∷ rest) = joined_seen id f (join_of f now (own_scalar id x)) m rest
+  -- to join reductions changes scalars alone, and as many stand
+  pub joined_arrays : (rs : List (ℕ × Fold)) (tasks : List T) (m : Memory) → (with_joined share rs tasks m).arrays ≡ m.arrays
+  joined_arrays [] tasks m = refl
+  joined_arrays (r ∷ rest) tasks m = joined_arrays rest tasks (assign r.0 (joined_with share r.0 r.1 (scalar_at m r.0) tasks) m)
 
--- so the gathered store is settled from what the tasks saw
-pub gathered_settles : (rs : List (ℕ × Fold)) (tasks : List TaskView) (m : Memory) → AreApart rs → AreThere rs m.scalars
-    → IsSettledFrom m rs (views_of m tasks) (gathered rs tasks m)
-gathered_settles rs tasks m apart there =
-    let base = with_changes m tasks m in
-    let scalars : base.scalars ≡ m.scalars = changes_scalars m m tasks in
-    let arrays = joined_arrays rs tasks base in
-    record {
-      depth = joined_depth rs tasks base ∙ ap (λ (xs : List ℤ). length xs) scalars;
-      scalars = λ id below others. joined_other rs tasks base id others ∙ ap (λ (xs : List ℤ). slice_index_or xs id (pos 0)) scalars;
-      reduced = λ id f has.
-          joined_there rs tasks base apart (subst (AreThere rs) (sym scalars) there) has.0 id f has.1 has.2
-          ∙ ap (λ (xs : List ℤ). joined_with id f (slice_index_or xs id (pos 0)) tasks) scalars
-          ∙ joined_seen id f (scalar_at m id) m tasks;
-      arrays = ap (λ (xs : List (List ℤ)). length xs) arrays ∙ changes_many m m tasks;
-      sizes = λ array. ap (λ (xs : List (List ℤ)). length (slice_index_or xs array [])) arrays ∙ changes_long m m tasks array;
-      cells = λ array place. ap (λ (xs : List (List ℤ)). slice_index_or (slice_index_or xs array []) place (pos 0)) arrays ∙ cells_settled m tasks array place;
-      printed = joined_printed rs tasks base ∙ changes_printed m m tasks;
-    }
+  pub joined_printed : (rs : List (ℕ × Fold)) (tasks : List T) (m : Memory) → (with_joined share rs tasks m).printed ≡ m.printed
+  joined_printed [] tasks m = refl
+  joined_printed (r ∷ rest) tasks m = joined_printed rest tasks (assign r.0 (joined_with share r.0 r.1 (scalar_at m r.0) tasks) m)
 
--- what tasks have written, once the store's own values are forgotten
+  pub joined_depth : (rs : List (ℕ × Fold)) (tasks : List T) (m : Memory) → length (with_joined share rs tasks m).scalars ≡ length m.scalars
+  joined_depth [] tasks m = refl
+  joined_depth (r ∷ rest) tasks m =
+      let v = joined_with share r.0 r.1 (scalar_at m r.0) tasks in
+      joined_depth rest tasks (assign r.0 v m) ∙ length-set m.scalars r.0 v
 
--- so many of the first tasks have only what isn't in the store already, and the others are as they were
-abbrev pub AreLeftBelow : ℕ → Memory → List TaskView → List TaskView → Type 0
-AreLeftBelow zero m xs ys = xs ≡ ys
-AreLeftBelow (suc n) m [] [] = Unit {0}
-AreLeftBelow (suc n) m [] (y ∷ ys) = ⊥
-AreLeftBelow (suc n) m (x ∷ xs) [] = ⊥
-AreLeftBelow (suc n) m (x ∷ xs) (y ∷ ys) =
-    (y.share.scalars ≡ x.share.scalars) × (over_of y.share.written ≡ changes_of m (over_of x.share.written)) × AreLeftBelow n m xs ys
+  -- a scalar that is no reduction is as it was
+  pub joined_other : (rs : List (ℕ × Fold)) (tasks : List T) (m : Memory) (id : ℕ) → ((f : Fold) → Contains rs (id, f) → ⊥)
+      → scalar_at (with_joined share rs tasks m) id ≡ scalar_at m id
+  joined_other [] tasks m id others = refl
+  joined_other (r ∷ rest) tasks m id others =
+      let v = joined_with share r.0 r.1 (scalar_at m r.0) tasks in
+      joined_other rest tasks (assign r.0 v m) id (λ f has. others f (suc has.0, omega (arith, has.1), has.2))
+      ∙ get_or-set_other m.scalars r.0 id v (pos 0) (λ (is : id ≡ r.0). others r.1 (0, omega arith, λ i. (sym is i, r.1)))
 
--- with one more
-next_left : (n : ℕ) (m : Memory) (xs ys : List TaskView) (x y : TaskView) → n < length ys → get_or ys n x ≡ x → y.share.scalars ≡ x.share.scalars
-    → over_of y.share.written ≡ changes_of m (over_of x.share.written) → AreLeftBelow n m xs ys → AreLeftBelow (suc n) m xs (set ys n y)
-next_left n m xs [] x y below is same written h = absurd (omega (arith, below))
-next_left zero m xs (z ∷ ys) x y below is same written h =
-    subst (λ (zs : List TaskView). AreLeftBelow 1 m zs (y ∷ ys)) (sym h)
-    ((same ∙ ap (λ (t : TaskView). t.share.scalars) (sym is), written ∙ ap (λ (t : TaskView). changes_of m (over_of t.share.written)) (sym is), refl))
-next_left (suc n) m [] (z ∷ ys) x y below is same written h = absurd h
-next_left (suc n) m (w ∷ xs) (z ∷ ys) x y below is same written h =
-    (h.0, h.1, next_left n m xs ys x y (omega (arith, below)) is same written h.2)
+  -- and each reduction is joined
+  pub joined_there : (rs : List (ℕ × Fold)) (tasks : List T) (m : Memory) → AreApart rs → AreThere rs m.scalars → (k id : ℕ) (f : Fold) → k < length rs
+      → slice_index_or rs k (id, f) ≡ (id, f) → scalar_at (with_joined share rs tasks m) id ≡ joined_with share id f (scalar_at m id) tasks
+  joined_there [] tasks m apart there k id f below is = absurd (omega (arith, below))
+  joined_there (r ∷ rest) tasks m apart there zero id f below is =
+      let v = joined_with share r.0 r.1 (scalar_at m r.0) tasks in
+      let own : scalar_at (with_joined share (r ∷ rest) tasks m) r.0 ≡ v =
+      joined_other rest tasks (assign r.0 v m) r.0
+      (λ g has. apart 0 (suc has.0) (r.0, g) (omega arith) (omega (arith, has.1)) (sym (ap (λ (q : ℕ × Fold). q.0) has.2)))
+      ∙ get_or-set_same m.scalars r.0 v (pos 0) (there 0 r (omega arith))
+      in
+      subst (λ (q : ℕ × Fold). scalar_at (with_joined share (r ∷ rest) tasks m) q.0 ≡ joined_with share q.0 q.1 (scalar_at m q.0) tasks) is own
+  joined_there (r ∷ rest) tasks m apart there (suc k) id f below is =
+      let v = joined_with share r.0 r.1 (scalar_at m r.0) tasks in
+      let other : id ≢ r.0 =
+      λ (e : id ≡ r.0). apart 0 (suc k) (id, f) (omega arith) below (sym e ∙ sym (ap (λ (q : ℕ × Fold). q.0) is))
+      in
+      joined_there rest tasks (assign r.0 v m) (λ i j d less within. apart (suc i) (suc j) d (omega (arith, less)) (omega (arith, within)))
+      (λ j d within. subst (λ n. (slice_index_or rest j d).0 < n) (sym (length-set m.scalars r.0 v)) (there (suc j) d (omega (arith, within))))
+      k id f (omega (arith, below)) is
+      ∙ ap (λ (now : ℤ). joined_with share id f now tasks) (get_or-set_other m.scalars r.0 id v (pos 0) other)
 
-pub left_on : (n : ℕ) (m : Memory) (xs ys : List TaskView) (x y : TaskView) → n < length ys → get_or ys n x ≡ x → y.share.scalars ≡ x.share.scalars
-    → over_of y.share.written ≡ changes_of m (over_of x.share.written) → AreLeftBelow n m xs ys → AreLeftBelow (n + 1) m xs (set ys n y)
-left_on n m xs ys x y below is same written h =
-    subst (λ (k : ℕ). AreLeftBelow k m xs (set ys n y)) (let e : suc n ≡ n + 1 = omega arith in e) (next_left n m xs ys x y below is same written h)
+  -- with the value of one more task
+  pub joined_on : (id : ℕ) (f : Fold) (now : ℤ) (tasks : List T) (i : ℕ) (x : T) → i < length tasks → slice_index_or tasks i x ≡ x
+      → joined_with share id f now (drop i tasks) ≡ joined_with share id f (join_of f now (own_scalar id (share x))) (drop (i + 1) tasks)
+  joined_on id f now tasks i x below is =
+      at_drop_more (λ (xs : List T). joined_with share id f now xs) tasks i x below
+      ∙ ap (λ (y : T). joined_with share id f (join_of f now (own_scalar id (share y))) (drop (i + 1) tasks)) is
 
--- and all of them
-pub all_left : (n : ℕ) (m : Memory) (xs ys : List TaskView) → length ys ≤ n → AreLeftBelow n m xs ys → AreLeft m xs ys
-all_left zero m [] [] past h = tt
-all_left zero m (x ∷ xs) [] past h = absurd (cc)
-all_left zero m xs (y ∷ ys) past h = absurd (omega (arith, past))
-all_left (suc n) m [] [] past h = tt
-all_left (suc n) m [] (y ∷ ys) past h = absurd h
-all_left (suc n) m (x ∷ xs) [] past h = absurd h
-all_left (suc n) m (x ∷ xs) (y ∷ ys) past h = (h.0, h.1, all_left n m xs ys (omega (arith, past)) h.2)
+  -- with what the tasks saw
+  pub joined_seen : (id : ℕ) (f : Fold) (now : ℤ) (m : Memory) (tasks : List T)
+      → joined_with share id f now tasks ≡ joined_all f now (map (λ (v : Memory). scalar_at v id) (views_of share m tasks))
+  joined_seen id f now m [] = refl
+  joined_seen id f now m (x ∷ rest) = joined_seen id f (join_of f now (own_scalar id (share x))) m rest
 
--- what is left, written into a store, is what the tasks have changed
-left_written : (was m : Memory) (tasks left : List TaskView) → AreLeft was tasks left → with_written left m ≡ with_changes was tasks m
-left_written was m [] [] h = refl
-left_written was m [] (y ∷ ys) h = absurd h
-left_written was m (x ∷ xs) [] h = absurd h
-left_written was m (x ∷ xs) (y ∷ ys) h =
-    left_written was (under (over_of y.share.written) m) xs ys h.2
-    ∙ ap (λ (over : ℕ → ℕ → Option ℤ). with_changes was xs (under over m)) h.1
+  -- so the gathered store is settled from what the tasks saw
+  pub gathered_settles : (rs : List (ℕ × Fold)) (tasks : List T) (m : Memory) → AreApart rs → AreThere rs m.scalars
+      → IsSettledFrom m rs (views_of share m tasks) (gathered share rs tasks m)
+  gathered_settles rs tasks m apart there =
+      let base = with_changes share m tasks m in
+      let scalars : base.scalars ≡ m.scalars = changes_scalars m m tasks in
+      let arrays = joined_arrays rs tasks base in
+      record {
+        depth = joined_depth rs tasks base ∙ ap (λ (xs : List ℤ). length xs) scalars;
+        scalars = λ id below others. joined_other rs tasks base id others ∙ ap (λ (xs : List ℤ). slice_index_or xs id (pos 0)) scalars;
+        reduced = λ id f has.
+            joined_there rs tasks base apart (subst (AreThere rs) (sym scalars) there) has.0 id f has.1 has.2
+            ∙ ap (λ (xs : List ℤ). joined_with share id f (slice_index_or xs id (pos 0)) tasks) scalars
+            ∙ joined_seen id f (scalar_at m id) m tasks;
+        arrays = ap (λ (xs : List (List ℤ)). length xs) arrays ∙ changes_many m m tasks;
+        sizes = λ array. ap (λ (xs : List (List ℤ)). length (slice_index_or xs array [])) arrays ∙ changes_long m m tasks array;
+        cells = λ array place. ap (λ (xs : List (List ℤ)). slice_index_or (slice_index_or xs array []) place (pos 0)) arrays ∙ cells_settled m tasks array place;
+        printed = joined_printed rs tasks base ∙ changes_printed m m tasks;
+      }
 
--- and their scalars are joined as before
-left_joined : (was : Memory) (id : ℕ) (f : Fold) (now : ℤ) (tasks left : List TaskView) → AreLeft was tasks left → joined_with id f now left ≡ joined_with id f now tasks
-left_joined was id f now [] [] h = refl
-left_joined was id f now [] (y ∷ ys) h = absurd h
-left_joined was id f now (x ∷ xs) [] h = absurd h
-left_joined was id f now (x ∷ xs) (y ∷ ys) h =
-    left_joined was id f (join_of f now (own_scalar id y)) xs ys h.2
-    ∙ ap (λ (vs : List ℤ). joined_with id f (join_of f now (slice_index_or vs id (pos 0))) xs) h.0
+  -- what tasks have written, once the store's own values are forgotten
 
-left_joins : (was m : Memory) (rs : List (ℕ × Fold)) (tasks left : List TaskView) → AreLeft was tasks left → with_joined rs left m ≡ with_joined rs tasks m
-left_joins was m [] tasks left h = refl
-left_joins was m (r ∷ rest) tasks left h =
-    left_joins was (assign r.0 (joined_with r.0 r.1 (scalar_at m r.0) left) m) rest tasks left h
-    ∙ ap (λ (v : ℤ). with_joined rest tasks (assign r.0 v m)) (left_joined was r.0 r.1 (scalar_at m r.0) tasks left h)
+  -- so many of the first tasks have only what isn't in the store already, and the others are as they were
+  abbrev pub AreLeftBelow : ℕ → Memory → List T → List T → Type 0
+  AreLeftBelow zero m xs ys = xs ≡ ys
+  AreLeftBelow (suc n) m [] [] = Unit {0}
+  AreLeftBelow (suc n) m [] (y ∷ ys) = ⊥
+  AreLeftBelow (suc n) m (x ∷ xs) [] = ⊥
+  AreLeftBelow (suc n) m (x ∷ xs) (y ∷ ys) =
+      ((share y).scalars ≡ (share x).scalars) × ((share y).printed ≡ (share x).printed)
+      × (over_of (share y).written ≡ changes_of m (over_of (share x).written)) × AreLeftBelow n m xs ys
 
--- so the scalar of each reduction is still there, and the store is gathered
-pub still_there : (rs : List (ℕ × Fold)) (m : Memory) (tasks left : List TaskView) → AreLeft m tasks left → AreThere rs m.scalars
-    → AreThere rs (with_written left m).scalars
-still_there rs m tasks left h there =
-    subst (AreThere rs) (sym (ap (λ (s : Memory). s.scalars) (left_written m m tasks left h) ∙ changes_scalars m m tasks)) there
+  -- with one more
+  next_left : (n : ℕ) (m : Memory) (xs ys : List T) (x y : T) → n < length ys → get_or ys n x ≡ x → (share y).scalars ≡ (share x).scalars → (share y).printed ≡ (share x).printed
+      → over_of (share y).written ≡ changes_of m (over_of (share x).written) → AreLeftBelow n m xs ys → AreLeftBelow (suc n) m xs (set ys n y)
+  next_left n m xs [] x y below is same prints written h = absurd (omega (arith, below))
+  next_left zero m xs (z ∷ ys) x y below is same prints written h =
+      subst (λ (zs : List T). AreLeftBelow 1 m zs (y ∷ ys)) (sym h)
+      ((same ∙ ap (λ (t : T). (share t).scalars) (sym is), prints ∙ ap (λ (t : T). (share t).printed) (sym is), written ∙ ap (λ (t : T). changes_of m (over_of (share t).written)) (sym is), refl))
+  next_left (suc n) m [] (z ∷ ys) x y below is same prints written h = absurd h
+  next_left (suc n) m (w ∷ xs) (z ∷ ys) x y below is same prints written h =
+      (h.0, h.1, h.2, next_left n m xs ys x y (omega (arith, below)) is same prints written h.3)
 
-pub left_gathered : (rs : List (ℕ × Fold)) (m : Memory) (tasks left : List TaskView) → AreLeft m tasks left
-    → with_joined rs left (with_written left m) ≡ gathered rs tasks m
-left_gathered rs m tasks left h =
-    ap (with_joined rs left) (left_written m m tasks left h) ∙ left_joins m (with_changes m tasks m) rs tasks left h
+  pub left_on : (n : ℕ) (m : Memory) (xs ys : List T) (x y : T) → n < length ys → get_or ys n x ≡ x → (share y).scalars ≡ (share x).scalars → (share y).printed ≡ (share x).printed
+      → over_of (share y).written ≡ changes_of m (over_of (share x).written) → AreLeftBelow n m xs ys → AreLeftBelow (n + 1) m xs (set ys n y)
+  left_on n m xs ys x y below is same prints written h =
+      subst (λ (k : ℕ). AreLeftBelow k m xs (set ys n y)) (let e : suc n ≡ n + 1 = omega arith in e) (next_left n m xs ys x y below is same prints written h)
+
+  -- and all of them
+  pub all_left : (n : ℕ) (m : Memory) (xs ys : List T) → length ys ≤ n → AreLeftBelow n m xs ys → AreLeft share m xs ys
+  all_left zero m [] [] past h = tt
+  all_left zero m (x ∷ xs) [] past h = absurd (cc)
+  all_left zero m xs (y ∷ ys) past h = absurd (omega (arith, past))
+  all_left (suc n) m [] [] past h = tt
+  all_left (suc n) m [] (y ∷ ys) past h = absurd h
+  all_left (suc n) m (x ∷ xs) [] past h = absurd h
+  all_left (suc n) m (x ∷ xs) (y ∷ ys) past h = (h.0, h.1, h.2, all_left n m xs ys (omega (arith, past)) h.3)
+
+  -- what is left, written into a store, is what the tasks have changed
+  pub left_written : (was m : Memory) (tasks left : List T) → AreLeft share was tasks left → with_written share left m ≡ with_changes share was tasks m
+  left_written was m [] [] h = refl
+  left_written was m [] (y ∷ ys) h = absurd h
+  left_written was m (x ∷ xs) [] h = absurd h
+  left_written was m (x ∷ xs) (y ∷ ys) h =
+      left_written was (under (over_of (share y).written) m) xs ys h.3
+      ∙ ap (λ (over : ℕ → ℕ → Option ℤ). with_changes share was xs (under over m)) h.2
+
+  -- and their scalars are joined as before
+  left_joined : (was : Memory) (id : ℕ) (f : Fold) (now : ℤ) (tasks left : List T) → AreLeft share was tasks left → joined_with share id f now left ≡ joined_with share id f now tasks
+  left_joined was id f now [] [] h = refl
+  left_joined was id f now [] (y ∷ ys) h = absurd h
+  left_joined was id f now (x ∷ xs) [] h = absurd h
+  left_joined was id f now (x ∷ xs) (y ∷ ys) h =
+      left_joined was id f (join_of f now (own_scalar id (share y))) xs ys h.3
+      ∙ ap (λ (vs : List ℤ). joined_with share id f (join_of f now (slice_index_or vs id (pos 0))) xs) h.0
+
+  pub left_joins : (was m : Memory) (rs : List (ℕ × Fold)) (tasks left : List T) → AreLeft share was tasks left → with_joined share rs left m ≡ with_joined share rs tasks m
+  left_joins was m [] tasks left h = refl
+  left_joins was m (r ∷ rest) tasks left h =
+      left_joins was (assign r.0 (joined_with share r.0 r.1 (scalar_at m r.0) left) m) rest tasks left h
+      ∙ ap (λ (v : ℤ). with_joined share rest tasks (assign r.0 v m)) (left_joined was r.0 r.1 (scalar_at m r.0) tasks left h)
+
+  -- so the scalar of each reduction is still there, and the store is gathered
+  pub still_there : (rs : List (ℕ × Fold)) (m : Memory) (tasks left : List T) → AreLeft share m tasks left → AreThere rs m.scalars
+      → AreThere rs (with_written share left m).scalars
+  still_there rs m tasks left h there =
+      subst (AreThere rs) (sym (ap (λ (s : Memory). s.scalars) (left_written m m tasks left h) ∙ changes_scalars m m tasks)) there
+
+  pub left_gathered : (rs : List (ℕ × Fold)) (m : Memory) (tasks left : List T) → AreLeft share m tasks left
+      → with_joined share rs left (with_written share left m) ≡ gathered share rs tasks m
+  left_gathered rs m tasks left h =
+      ap (with_joined share rs left) (left_written m m tasks left h) ∙ left_joins m (with_changes share m tasks m) rs tasks left h

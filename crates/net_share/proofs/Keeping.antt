@@ -18,8 +18,8 @@ use Rattle.net_share.specs.Tasks.{TaskView, stand_of, task_over}
 use Rattle.net_share.specs.Works.{Doing, doing, sharing_work}
 
 -- where nothing is said of values, any work keeps it
-pub lawful : (does : Doing) (W limit : ℕ) → LawfulSharing (sharing_work does W) no_meaning limit
-lawful does W limit = record {
+pub any_work : (work : Work Memory (Unit {0})) (limit : ℕ) → LawfulSharing work no_meaning limit
+any_work work limit = record {
   enter = λ t claimants v below h. tt;
   unit = λ t claimants u v below inner h. tt;
   leave = λ t claimants v below h. tt;
@@ -28,7 +28,7 @@ lawful does W limit = record {
 -- a step of a task that moves keeps the net
 step_keeps : (does : Doing) (W limit many : ℕ) (net : Net Memory (Unit {0})) → IsSharedNet (sharing_work does W) no_meaning limit many net → (t : ℕ) → t < length net.tasks
     → is_finished (task_at (sharing_work does W) net t).position ≡ false → IsSharedNet (sharing_work does W) no_meaning limit many (step (sharing_work does W) net t)
-step_keeps does W limit many net here t below goes = sharing_keeps Memory (Unit {0}) (sharing_work does W) no_meaning refl limit many (lawful does W limit) net t here below goes
+step_keeps does W limit many net here t below goes = sharing_keeps Memory (Unit {0}) (sharing_work does W) no_meaning refl limit many (any_work (sharing_work does W) limit) net t here below goes
 
 -- where a task that shares iterations stands, it doesn't wait
 waits_never : (work : Work Memory (Unit {0})) (net : Net Memory (Unit {0})) (x : Task Memory) (p : Place) → waits_at work net x (stand_of p) ≡ false
@@ -82,7 +82,7 @@ module _ (n : Sharing) (here : IsSharing n) where
 
   pub moves_are : is_over (net_machine (work_of n)) (net_of n) ≡ true → moves_of (net_of n) ≡ n.granted * length n.iterations.units.now.body + n.granted + length n.tasks.items
   moves_are over =
-      let h = sharing_moved Memory (Unit {0}) (work_of n) no_meaning refl n.iterations.limit (length n.tasks.items) (lawful (doing_of n) (length n.tasks.items) n.iterations.limit) (net_of n) here.net over in
+      let h = sharing_moved Memory (Unit {0}) (work_of n) no_meaning refl n.iterations.limit (length n.tasks.items) (any_work (work_of n) n.iterations.limit) (net_of n) here.net over in
       omega (arith, h)
 
 -- whether all tasks have finished, asked one after another

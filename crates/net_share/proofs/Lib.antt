@@ -1,12 +1,12 @@
 mod UnitRuns
 mod Moves
-mod Keeping
+pub mod Keeping
 mod Beginning
-mod Gathering
+pub mod Gathering
 mod Apart
-mod Listed
+pub mod Listed
 mod Claimed
-mod SharedOut
-mod UnitsLeft
+pub mod SharedOut
+pub mod UnitsLeft
 mod EntryNets
-mod SettledViews
+pub mod SettledViews

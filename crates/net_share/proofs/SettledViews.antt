@@ -13,9 +13,9 @@ use Rattle.nona_tree.specs.Memory.{Memory, scalar_at, cell_at}
 use Rattle.nona_tree.specs.Run.{Ran, done}
 use Rattle.nona_plans.specs.Units.{reductions_of}
 use Rattle.nona_parts.specs.Sharing.{Sharing, MayBeShared, IsSettled, store_before, turns_over, task_run, writes_cell, partial_of, joined_with}
-use Rattle.nona_parts.proofs.Settled.{cells_keep, settled_is_behind}
-use Rattle.nona_parts.proofs.Tasks.{thread_done}
-use Rattle.nona_parts.proofs.Together.{written_once}
+use Rattle.nona_fission.specs.Fission.{whole_of}
+use Rattle.nona_fission.proofs.Left.{thread_ends}
+use Rattle.nona_fission.proofs.Whole.{whole_may, written_once, cells_keep, settled_is_behind}
 use Rattle.net_flow.specs.Machines.{is_over}
 use Rattle.net_flow.specs.Net.{Task, Net, net_machine, no_task, task_at}
 use Rattle.net_flow.proofs.SharingMachine.{sharing_values}
@@ -32,7 +32,7 @@ joined_first : (f : Fold) (now : ℤ) (part : ℕ → ℤ) (n : ℕ) → joined_
 joined_first f now part zero = refl
 joined_first f now part (suc n) = ap (λ (v : ℤ). join_of f v (part (suc n))) (joined_first f now part n)
 
-joined_list : (f : Fold) (now : ℤ) (vs : List ℤ) (part : ℕ → ℤ) → ((t : ℕ) → t < length vs → get_or vs t (pos 0) ≡ part t) → joined_all f now vs ≡ joined_with f now part (length vs)
+pub joined_list : (f : Fold) (now : ℤ) (vs : List ℤ) (part : ℕ → ℤ) → ((t : ℕ) → t < length vs → get_or vs t (pos 0) ≡ part t) → joined_all f now vs ≡ joined_with f now part (length vs)
 joined_list f now [] part h = refl
 joined_list f now (v ∷ vs) part h =
     let first : v ≡ part 0 = h 0 (omega arith) in
@@ -136,5 +136,5 @@ module _ (e : Entry) (first limit W : ℕ) (net : Net Memory (Unit {0})) (m : Me
   pub settled_is_done : after e (first + net.granted) ≡ done m
   settled_is_done =
       ap (λ (k : ℕ). after e (first + k)) (sym here.sound.all)
-      ∙ as_done (after e (first + length here.claimants)) (thread_done granted may (length here.claimants) (omega arith))
+      ∙ as_done (after e (first + length here.claimants)) (thread_ends (whole_of granted) (whole_may granted may))
       ∙ ap done (sym (settled_is_behind granted m may is_settled))

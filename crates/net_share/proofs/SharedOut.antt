@@ -12,9 +12,9 @@ use Rattle.nona_tree.proofs.Keeps.{SameArrays, arrays_kept, kept_then, all_kept,
 use Rattle.nona_plans.specs.Units.{reductions_of}
 use Rattle.nona_parts.specs.Sharing.{Sharing, MayBeShared, index_of, iteration, turns_over, task_run}
 use Rattle.nona_parts.proofs.Begun.{units_arrays}
-use Rattle.nona_parts.proofs.Settled.{numbers_keep, depth_keep}
-use Rattle.nona_parts.proofs.Tasks.{before_begins, index_number}
-use Rattle.nona_parts.proofs.Together.{goes_on, task_done}
+use Rattle.nona_fission.specs.Fission.{whole_of}
+use Rattle.nona_fission.proofs.Thread.{before_begins, index_number}
+use Rattle.nona_fission.proofs.Whole.{whole_may, goes_on, task_done, numbers_keep, depth_keep}
 use Rattle.net_flow.specs.Sharing.{claimed_by}
 use Rattle.net_share.specs.Entries.{MayShare, begun_in}
 use Rattle.net_share.proofs.Claimed.{owner_or, above, owner_above, claimed_is, claims_next}
@@ -73,7 +73,7 @@ module _ (e : Entry) (first limit t : ℕ) (cs : List ℕ) (h : MayShare e first
 
   pub depth_behind : length m.scalars ≡ length e.store.scalars
   depth_behind =
-      sym (ap (λ (r : Ran). length r.store.scalars) run_is) ∙ depth_keep now may_now t ∙ (before_begins now may_now).depth
+      sym (ap (λ (r : Ran). length r.store.scalars) run_is) ∙ depth_keep now may_now t ∙ (before_begins (whole_of now) (whole_may now may_now)).depth
 
   pub arrays_behind : length m.arrays ≡ length e.store.arrays
   arrays_behind =
@@ -83,7 +83,7 @@ module _ (e : Entry) (first limit t : ℕ) (cs : List ℕ) (h : MayShare e first
       ∙ same_count e.store (after e first).store (turns_kept SameArrays arrays_kept e.looped.body e.turns e.low first e.store)
 
   pub index_behind : IsI64 (index_of e first (length cs))
-  index_behind = index_number further may_further (length cs) (omega arith)
+  index_behind = index_number (whole_of further) (whole_may further may_further) (length cs) (omega arith)
 
   further_is : task_run further t ≡ iteration e first (length cs) m
   further_is =

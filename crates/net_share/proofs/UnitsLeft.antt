@@ -15,7 +15,7 @@ use Rattle.nona_tree.proofs.I64.{run_fits}
 use Rattle.nona_tree.proofs.Keeps.{SameArrays, arrays_kept, run_kept}
 use Rattle.nona_parts.specs.Sharing.{index_of, iteration, turns_over}
 use Rattle.nona_parts.proofs.Tasks.{declare_numbers}
-use Rattle.nona_parts.proofs.Together.{goes_on}
+use Rattle.nona_fission.proofs.Whole.{goes_on}
 use Rattle.net_flow.specs.Sharing.{claimed_by}
 use Rattle.net_share.specs.Entries.{MayShare, IsWithin, begun_in}
 use Rattle.net_share.specs.May.{MayRunFirst}
@@ -57,12 +57,12 @@ module _ (s : Stmt) (rest : List Stmt) (n : ℕ) (m : Memory) (ends : (run_all (
   rest_scoped h =
       subst₂ (AreScoped rest) (sym (depth_where_done s n m unit_done)) (sym (same_count m (run s n m).store (run_kept SameArrays arrays_kept s n m))) h.1
 
-next_unit : (ss : List Stmt) (u : ℕ) → u < length ss → (s : Stmt) × (drop u ss ≡ s ∷ drop (suc u) ss)
+pub next_unit : (ss : List Stmt) (u : ℕ) → u < length ss → (s : Stmt) × (drop u ss ≡ s ∷ drop (suc u) ss)
 next_unit [] u below = absurd (omega (arith, below))
 next_unit (s ∷ ss) zero below = (s, refl)
 next_unit (s ∷ ss) (suc u) below = let next = next_unit ss u (omega (arith, below)) in (next.0, next.1)
 
-numbers_left : (ss : List Stmt) (u : ℕ) → AreI64Stmts ss → AreI64Stmts (drop u ss)
+pub numbers_left : (ss : List Stmt) (u : ℕ) → AreI64Stmts ss → AreI64Stmts (drop u ss)
 numbers_left ss zero h = h
 numbers_left [] (suc u) h = h
 numbers_left (s ∷ ss) (suc u) h = numbers_left ss u h.1

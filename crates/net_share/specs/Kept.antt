@@ -1,9 +1,13 @@
 -- The machine of tasks that share iterations, as it is kept.
 use Rattle.std.specs.Prelude.{◌≡◌, ℕ, ◌+◌, ◌*◌, ◌<◌, ◌≤◌, ◌^◌, Bool, true, false, pos, ◌+ℤ◌, FitsSigned, List, [], ◌∷◌, length, map, max, All}
 use Rattle.std.specs.Int.{w64}
+use Rattle.nona_num.specs.declared.folds.Fold.{Fold}
 use Rattle.nona_tree.specs.Memory.{Memory}
+use Rattle.nona_parts.specs.Sharing.{with_units}
+use Rattle.net_flow.specs.Begun.{begun_net}
 use Rattle.net_flow.specs.Net.{Work, Task, Net, task_at}
 use Rattle.net_flow.specs.Sharing.{SharedMeaning, IsSharedNet}
+use Rattle.net_share.specs.declared.iterations.Iterations.{Iterations}
 use Rattle.net_share.specs.declared.sharing.Sharing.{Sharing}
 use Rattle.net_share.specs.declared.sharing.StepEnd.{StepEnd}
 use Rattle.net_share.specs.declared.sharing.StepEnd.TheVariants as step_end
@@ -33,6 +37,10 @@ net_of n = record {
   links = [];
   waits = 0;
 }
+
+-- the net of these iterations before its first step, of so many tasks over this store, each with its reductions at their units
+abbrev pub first_net : Iterations → ℕ → Memory → List (ℕ × Fold) → Net Memory (Unit {0})
+first_net i workers m reductions = begun_net (sharing_work (doing i (length m.scalars)) workers) i.limit (λ s w. with_units reductions m)
 
 -- the task with this number
 abbrev pub task_of : Sharing → ℕ → Task Memory

@@ -20,6 +20,10 @@ pub record TaskView : Type 0 where
   pub moves : ℕ
   pub room : ℕ
 
+-- its share of the store
+abbrev pub share_of : TaskView → ShareView
+share_of x = x.share
+
 -- a task with this number before its first step, with these scalars and so much room
 abbrev pub new_task : ℕ → List ℤ → ℕ → TaskView
 new_task number scalars room = record {

@@ -21,8 +21,9 @@ fn begin_with_unit(scalars: &mut Vec<i64>, id: u32, fold: Fold)
     scalars[id as usize] = fold.unit();
 }
 
-/// The scalars with which a task begins: those of the store, but each reduction's with its fold's unit.
-fn first_scalars(
+/// The scalars with which a task begins: those of the store, but each reduction's with its fold's unit. The scalar of each reduction is
+/// there. The one error is that memory ran out.
+pub fn first_scalars(
     alloc: Global,
     store: &Store,
     reductions: &[(u32, Fold)],

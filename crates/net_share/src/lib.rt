@@ -12,10 +12,13 @@ mod begun;
 mod iterations;
 mod laws;
 mod settling;
+mod shares;
 mod sharing;
 mod task;
 
+pub use begun::first_scalars;
 pub use iterations::Iterations;
 pub use laws::{reductions_stand, sharing_begins, sharing_goes_on, sharing_settles};
+pub use shares::{declare_on, leave_on, run_on};
 pub use sharing::{Sharing, StepEnd};
 pub use task::Position;

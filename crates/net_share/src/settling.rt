@@ -4,6 +4,7 @@ ghost use Rattle.std.specs.Prelude.{◌≡◌, ◌<◌, length};
 ghost use Rattle.nona_tree.specs.Memory.{assign, scalar_at};
 ghost use Rattle.net_share.specs.Begins.{AreThere};
 ghost use Rattle.net_share.specs.Gathered.{AreLeft, gathered, joined_with, with_joined, with_written};
+ghost use Rattle.net_share.specs.Tasks.{share_of};
 
 use crate::task::Task;
 use nona_num::Fold;
@@ -12,7 +13,7 @@ use nona_store::Store;
 /// Forgets what tasks have written and the store has already. Nothing else of them changes.
 #[tactic(auto, using(crate::proofs::Gathering::left_on, crate::proofs::Gathering::all_left))]
 fn keep_changes(store: &Store, tasks: &mut Vec<Task>)
-    ensures { AreLeft store.now tasks.old.items tasks.new.items }
+    ensures { AreLeft share_of store.now tasks.old.items tasks.new.items }
 {
     'tasks: for number in 0..tasks.len() {
         tasks[number].keep_changes(store);
@@ -21,7 +22,7 @@ fn keep_changes(store: &Store, tasks: &mut Vec<Task>)
 
 /// Writes into a store what each of these tasks has written, one task after another.
 fn apply_all(store: &mut Store, tasks: &[Task])
-    ensures { store.new ≡ with_written tasks.now store.old }
+    ensures { store.new ≡ with_written share_of tasks.now store.old }
 {
     'tasks: for task in tasks {
         store.apply(task.overlay());
@@ -30,7 +31,7 @@ fn apply_all(store: &mut Store, tasks: &[Task])
 
 /// A number joined with the values that tasks have of the scalar with this id.
 fn joined(id: u32, fold: Fold, value: i64, tasks: &[Task]) -> i64
-    ensures { result ≡ joined_with id fold value tasks.now }
+    ensures { result ≡ joined_with share_of id fold value tasks.now }
 {
     let mut joined = value;
     'tasks: for task in tasks {
@@ -42,7 +43,7 @@ fn joined(id: u32, fold: Fold, value: i64, tasks: &[Task]) -> i64
 /// Joins a reduction, whose scalar is there, with the values that tasks have of it.
 fn join_reduction(store: &mut Store, id: u32, fold: Fold, tasks: &[Task])
     requires { id < length store.old.scalars }
-    ensures { store.new ≡ assign id (joined_with id fold (scalar_at store.old id) tasks.now) store.old }
+    ensures { store.new ≡ assign id (joined_with share_of id fold (scalar_at store.old id) tasks.now) store.old }
 {
     let joined = joined(id, fold, store.scalar(id), tasks);
     store.set_scalar(id, joined);
@@ -51,7 +52,7 @@ fn join_reduction(store: &mut Store, id: u32, fold: Fold, tasks: &[Task])
 /// Joins each reduction, whose scalars are there, with the values that tasks have of it.
 fn join_reductions(store: &mut Store, reductions: &[(u32, Fold)], tasks: &[Task])
     requires { AreThere reductions.now store.old.scalars }
-    ensures { store.new ≡ with_joined reductions.now tasks.now store.old }
+    ensures { store.new ≡ with_joined share_of reductions.now tasks.now store.old }
 {
     'reductions: for (id, fold) in reductions {
         join_reduction(store, *id, *fold, tasks);
@@ -59,11 +60,11 @@ fn join_reductions(store: &mut Store, reductions: &[(u32, Fold)], tasks: &[Task]
 }
 
 /// The store with each cell that tasks have changed and each reduction joined. Takes no memory, and a time in proportion to the
-/// places of the pages in which tasks have written, and to the reductions of each task.
+/// pages in which tasks have written, to the values in them, and to the reductions of each task.
 #[tactic(auto, using(crate::proofs::Gathering::still_there, crate::proofs::Gathering::left_gathered))]
 pub(crate) fn settled(store: Store, tasks: Vec<Task>, reductions: &[(u32, Fold)]) -> Store
     requires { AreThere reductions.now store.scalars }
-    ensures { result ≡ gathered reductions.now tasks.items store }
+    ensures { result ≡ gathered share_of reductions.now tasks.items store }
 {
     let mut store = store;
     let mut tasks = tasks;

@@ -2,17 +2,15 @@
 
 ghost use Rattle.std.specs.Prelude.{◌≡◌, ◌<◌, ◌+◌, ◌*◌, ◌^◌, ◌+ℤ◌, true, ℕ, pos, FitsSigned, get_or, length, OnOk, IfOk};
 ghost use Rattle.std.specs.Int.{w64};
-ghost use Rattle.net_flow.specs.Begun.{begun_net};
 ghost use Rattle.net_flow.specs.Flow.{Claims, Unit_at};
 ghost use Rattle.net_flow.specs.Net.{step, moved_at, paused_net, is_finished, is_granted, moves_of, net_machine};
 ghost use Rattle.net_flow.specs.Machines.{is_over};
-ghost use Rattle.nona_parts.specs.Sharing.{with_units};
 ghost use Rattle.net_share.specs.Begins.{AreApart, AreThere};
 ghost use Rattle.net_share.specs.Gathered.{views_of};
-ghost use Rattle.net_share.specs.Kept.{IsEnd, IsSharing, MayMove, Stays, doing_of, most_moves, net_of, store_of, task_of, work_of};
+ghost use Rattle.net_share.specs.Kept.{IsEnd, IsSharing, MayMove, Stays, doing_of, first_net, most_moves, net_of, store_of, task_of, work_of};
 ghost use Rattle.net_share.specs.Settled.{IsSettledFrom};
-ghost use Rattle.net_share.specs.Works.{doing, sharing_work};
-ghost use Rattle.net_share.specs.Tasks.{CanCount, TaskView, stand_of};
+ghost use Rattle.net_share.specs.Works.{doing};
+ghost use Rattle.net_share.specs.Tasks.{CanCount, TaskView, share_of, stand_of};
 
 use crate::begun::first_tasks;
 use crate::iterations::Iterations;
@@ -27,7 +25,7 @@ use std::alloc::{AllocError, Global};
 pub enum StepEnd {
     /// The task moved.
     Moved,
-    /// The task waits, and nothing changed. Tasks that share iterations never wait.
+    /// The task waits, and nothing changed but, where one is kept, the count of waits. Tasks that share iterations never wait.
     Waits,
     /// The task had finished before, and nothing changed.
     Finished,
@@ -62,8 +60,7 @@ impl<'a> Sharing<'a> {
         requires indices { (k : ℕ) → k < iterations.limit → FitsSigned w64 (iterations.from +ℤ pos k) }
         requires few { iterations.limit * (1 + length iterations.units.now.body) + (1 + workers) < 2 ^ 64 }
         requires there { AreThere reductions.now store.scalars }
-        ensures net { IfOk result (λ n. net_of n
-            ≡ begun_net (sharing_work (doing iterations.entry (length store.scalars)) workers) iterations.entry.limit (λ s w. with_units reductions.now store)) }
+        ensures net { IfOk result (λ n. net_of n ≡ first_net iterations.entry workers store reductions.now) }
         ensures does { IfOk result (λ n. doing_of n ≡ doing iterations.entry (length store.scalars)) }
         ensures store { IfOk result (λ n. store_of n ≡ store) }
         ensures sound { IfOk result IsSharing }
@@ -110,7 +107,7 @@ impl<'a> Sharing<'a> {
             self.tasks[task].finishes();
             return Ok(());
         }
-        self.tasks[task].begins(self.granted, &self.iterations, self.depth, &self.store)?;
+        self.tasks[task].begins(self.granted, &self.iterations, self.depth)?;
         self.granted += 1;
         Ok(())
     }
@@ -237,7 +234,7 @@ impl<'a> Sharing<'a> {
         requires over { is_over (net_machine (work_of self)) (net_of self) ≡ true }
         requires there { AreThere reductions.now (store_of self).scalars }
         requires apart { AreApart reductions.now }
-        ensures { IsSettledFrom (store_of self.entry) reductions.now (views_of (store_of self.entry) self.entry.tasks.items) result }
+        ensures { IsSettledFrom (store_of self.entry) reductions.now (views_of share_of (store_of self.entry) self.entry.tasks.items) result }
     {
         settled(self.store, self.tasks, reductions)
     }

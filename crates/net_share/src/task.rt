@@ -4,16 +4,17 @@ ghost use Rattle.std.specs.Prelude.{◌≡◌, ◌<◌, ◌+◌, ◌≤◌, ◌^
 ghost use Rattle.std.specs.Int.{w64};
 ghost use Rattle.nona_store.specs.Overlays.{changes_of, over_of};
 ghost use Rattle.nona_store.specs.Shares.{shared};
-ghost use Rattle.nona_tree.specs.Memory.{Memory, cut_to, declare};
+ghost use Rattle.nona_tree.specs.Memory.{Memory};
 ghost use Rattle.net_share.specs.May.{MayRunFirst};
 ghost use Rattle.net_flow.specs.Net.{arrives, enters, leaves, closes};
-ghost use Rattle.net_share.specs.Works.{Doing, doing, run_first, task_work};
+ghost use Rattle.net_share.specs.Works.{Doing, doing, task_work};
 ghost use Rattle.net_share.specs.declared.iterations.Iterations.{Iterations};
 
 use crate::iterations::Iterations;
-use nona_code::{Frame, UnitEnd};
+use crate::shares::{declare_on, leave_on, run_on};
+use nona_code::Frame;
 use nona_num::offset;
-use nona_store::{Bank, Overlay, Share, ShareBank, Store};
+use nona_store::{Overlay, Share, Store};
 use nona_units::Units;
 use std::alloc::{AllocError, Global};
 use std::marker::Model;
@@ -58,52 +59,6 @@ impl Model for Task {
     } };
 }
 
-/// Runs the unit with this number on a task's share of a store.
-#[tactic(auto, using(crate::proofs::UnitRuns::same_base))]
-fn run_on(
-    units: &Units,
-    at: usize,
-    turns: u64,
-    frame: &mut Frame,
-    store: &Store,
-    share: &mut Share,
-) -> Result<(), AllocError>
-    requires there { at < length units.now.body }
-    requires room { units.now.room ≤ frame.old.room }
-    requires may { MayRunFirst (drop at units.now.body) turns (shared store.now share.old) }
-    ensures run { OnOk result (shared store.now share.new ≡ (run_first (drop at units.now.body) turns (shared store.now share.old)).store) }
-    ensures room { frame.new.room ≡ frame.old.room }
-{
-    let mut bank = ShareBank::over(store, share.take());
-    let end = frame.unit(units.code(at), &mut bank, turns);
-    *share = bank.into_share();
-    match end {
-        UnitEnd::Done => Ok(()),
-        UnitEnd::Trap { kind: _, at: _ } | UnitEnd::OutOfTurns { at: _ } => unreachable!(),
-        UnitEnd::NoMemory => Err(AllocError),
-    }
-}
-
-/// Declares a scalar in a task's share of a store.
-fn declare_on(value: i64, store: &Store, share: &mut Share) -> Result<(), AllocError>
-    ensures { OnOk result (shared store.now share.new ≡ declare value (shared store.now share.old)) }
-{
-    let mut bank = ShareBank::over(store, share.take());
-    let pushed = bank.push_scalar(value);
-    *share = bank.into_share();
-    pushed
-}
-
-/// The scalars of a task's share behind the first `depth` go.
-fn leave_on(depth: usize, store: &Store, share: &mut Share)
-    ensures { shared store.now share.new ≡ cut_to depth (shared store.now share.old) }
-{
-    let behind = share.scalars().len().saturating_sub(depth);
-    let mut bank = ShareBank::over(store, share.take());
-    bank.cut_scalars(behind);
-    *share = bank.into_share();
-}
-
 impl Task {
     ghost use Rattle.net_share.specs.Gathered.{own_scalar};
     ghost use Rattle.net_share.specs.Tasks.{CanCount, counted, new_task, task_over, unit_done};
@@ -133,6 +88,7 @@ impl Task {
     /// Forgets each cell that it has written with the value that the store has there. Nothing else of the share changes.
     pub(crate) fn keep_changes(&mut self, store: &Store)
         ensures scalars { self.new.share.scalars ≡ self.old.share.scalars }
+        ensures printed { self.new.share.printed ≡ self.old.share.printed }
         ensures written { over_of self.new.share.written ≡ changes_of store.now (over_of self.old.share.written) }
     {
         self.share.keep_changes(store);
@@ -147,7 +103,7 @@ impl Task {
 
     /// Its own value of a scalar; 0 where it has no scalar with this id.
     pub(crate) fn scalar(&self, id: u32) -> i64
-        ensures { result ≡ own_scalar id self.now }
+        ensures { result ≡ own_scalar id self.now.share }
     {
         self.share.scalars().get(id as usize).copied().unwrap_or(0)
     }
@@ -167,28 +123,28 @@ impl Task {
     }
 
     /// Leaves its iteration: the scalars in it go.
-    fn leave(&mut self, depth: usize, store: &Store)
+    fn leave(&mut self, depth: usize)
         requires { self.old.done + 1 < 2 ^ 64 }
-        ensures task { (i : Iterations) → task_over store.now self.new ≡ leaves (task_work (doing i depth)) (task_over store.now self.old) }
+        ensures task { (i : Iterations) (m : Memory) → task_over m self.new ≡ leaves (task_work (doing i depth)) (task_over m self.old) }
         ensures room { self.new.room ≡ self.old.room }
         ensures moves { self.new.moves ≡ self.old.moves }
     {
-        leave_on(depth, store, &mut self.share);
+        leave_on(depth, &mut self.share);
         self.done += 1;
         self.position = Position::Claims;
     }
 
     /// Comes before the unit of its iteration with this number, or behind the last one.
-    fn arrive(&mut self, unit: usize, iterations: &Iterations, depth: usize, store: &Store)
+    fn arrive(&mut self, unit: usize, iterations: &Iterations, depth: usize)
         requires { self.old.done + 1 < 2 ^ 64 }
-        ensures task { task_over store.now self.new ≡ arrives (task_work (doing iterations.now depth)) unit (task_over store.now self.old) }
+        ensures task { (m : Memory) → task_over m self.new ≡ arrives (task_work (doing iterations.now depth)) unit (task_over m self.old) }
         ensures room { self.new.room ≡ self.old.room }
         ensures moves { self.new.moves ≡ self.old.moves }
     {
         if unit < iterations.units.count() {
             self.position = Position::Unit(unit);
         } else {
-            self.leave(depth, store);
+            self.leave(depth);
         }
     }
 
@@ -198,19 +154,18 @@ impl Task {
         number: u64,
         iterations: &Iterations,
         depth: usize,
-        store: &Store,
     ) -> Result<(), AllocError>
         requires done { self.old.done + 1 < 2 ^ 64 }
         requires fits { FitsSigned w64 (iterations.now.from +ℤ pos number) }
-        ensures task { OnOk result (task_over store.now self.new
-            ≡ enters (task_work (doing iterations.now depth)) number tt (task_over store.now self.old)) }
+        ensures task { OnOk result ((m : Memory) → task_over m self.new
+            ≡ enters (task_work (doing iterations.now depth)) number tt (task_over m self.old)) }
         ensures room { OnOk result (self.new.room ≡ self.old.room) }
         ensures moves { OnOk result (self.new.moves ≡ self.old.moves) }
     {
         let index = offset(iterations.from, number);
-        declare_on(index, store, &mut self.share)?;
+        declare_on(index, &mut self.share)?;
         self.iteration = number;
-        self.arrive(0, iterations, depth, store);
+        self.arrive(0, iterations, depth);
         Ok(())
     }
 
@@ -220,15 +175,14 @@ impl Task {
         number: u64,
         iterations: &Iterations,
         depth: usize,
-        store: &Store,
     ) -> Result<(), AllocError>
         requires counts { CanCount iterations.now.units.now self.old }
         requires fits { FitsSigned w64 (iterations.now.from +ℤ pos number) }
-        ensures task { OnOk result (task_over store.now self.new
-            ≡ counted (enters (task_work (doing iterations.now depth)) number tt (task_over store.now self.old))) }
+        ensures task { OnOk result ((m : Memory) → task_over m self.new
+            ≡ counted (enters (task_work (doing iterations.now depth)) number tt (task_over m self.old))) }
         ensures room { OnOk result (self.new.room ≡ self.old.room) }
     {
-        self.enter(number, iterations, depth, store)?;
+        self.enter(number, iterations, depth)?;
         self.moves += 1;
         Ok(())
     }
@@ -259,7 +213,7 @@ impl Task {
             store,
             &mut self.share,
         )?;
-        self.arrive(unit + 1, iterations, depth, store);
+        self.arrive(unit + 1, iterations, depth);
         Ok(())
     }
 

@@ -1,10 +1,12 @@
 -- Forms that stand one behind another: what an operator makes of the last ones.
-use Rattle.std.proofs.Common.{◌≡◌, Bool, true, false, List, [], ◌∷◌, ◌++◌, refl, sym, ap, subst, Some, None, Ok, Err, IfOk, ℕ}
+use Rattle.std.proofs.Common.{◌≡◌, Bool, true, false, List, [], ◌∷◌, ◌++◌, refl, sym, ap, subst, Some, None, Ok, Err, IfOk, ℕ, negsuc}
 use Rattle.std.specs.declared.option.Option.{Option}
 use Rattle.std.specs.declared.result.Result.{Result}
+use denote.Hole.Carrier.{hidden}
 use Rattle.nona_tree.specs.declared.trees.Op.{Op}
-use Rattle.nona_forms.specs.Affine.{Affine, form_by, on_form}
-use Rattle.nona_affine.specs.declared.combining.Act.TheVariants as act
+use Rattle.nona_tree.specs.declared.trees.Expr.{Expr, Neg, Binary}
+use Rattle.nona_tree.specs.declared.trees.Expr.TheBlock.{hidden-the_row-Expr-1}
+use Rattle.nona_forms.specs.Affine.{Affine, form_by, if_bounded, on_form, times_form}
 use Rattle.nona_affine.specs.Put.{HasActed, IsPut}
 
 -- there is none where a part has none
@@ -22,8 +24,32 @@ some_inside o go start before after last b r h p k =
     let q = subst (IsPut o before after) h p in
     subst (λ x. IfOk r (IsPut (on_form x go) start last)) (sym q.1) (k q.0 q.2)
 
--- what an operator made of the last two forms was put in their place
-pub combined : {E : Type 0} (r : Result Bool E) (op : Op) (ids : List ℕ) (before after : List Affine) → IfOk r (HasActed (act.Combine op) ids before after)
+-- the opposite of the last form is that of a turned part
+pub turns : {E : Type 0} (r : Result Bool E) (e part : Expr) (ids : List ℕ) (before after : List Affine) → e ≡ Neg part
+    → ((rest : List Affine) (f : Affine) → before ≡ rest ++ f ∷ [] → IfOk r (IsPut (if_bounded (times_form (negsuc 0) f)) rest after))
+    → IfOk r (HasActed e ids before after)
+unfolding hidden-the_row-Expr-1 hidden
+turns (Ok b) e part ids before after is h = subst (λ x. HasActed x ids before after b) (sym is) h
+turns (Err x) e part ids before after is h = tt
+
+pub turned : {E : Type 0} (r : Result Bool E) (e part : Expr) (ids : List ℕ) (before after : List Affine) → e ≡ Neg part
+    → IfOk r (HasActed e ids before after)
+    → (rest : List Affine) (f : Affine) → before ≡ rest ++ f ∷ [] → IfOk r (IsPut (if_bounded (times_form (negsuc 0) f)) rest after)
+unfolding hidden-the_row-Expr-1 hidden
+turned (Ok b) e part ids before after is h rest f k = subst (λ x. HasActed x ids before after b) is h rest f k
+turned (Err x) e part ids before after is h rest f k = h
+
+-- what an operator makes of the last two forms is that of its two sides
+pub combines : {E : Type 0} (r : Result Bool E) (e : Expr) (op : Op) (at : ℕ) (left right : Expr) (ids : List ℕ) (before after : List Affine) → e ≡ Binary op at left right
+    → ((rest : List Affine) (f g : Affine) → before ≡ (rest ++ f ∷ []) ++ g ∷ [] → IfOk r (IsPut (form_by op f g) rest after))
+    → IfOk r (HasActed e ids before after)
+unfolding hidden-the_row-Expr-1 hidden
+combines (Ok b) e op at left right ids before after is h = subst (λ x. HasActed x ids before after b) (sym is) h
+combines (Err x) e op at left right ids before after is h = tt
+
+pub combined : {E : Type 0} (r : Result Bool E) (e : Expr) (op : Op) (at : ℕ) (left right : Expr) (ids : List ℕ) (before after : List Affine) → e ≡ Binary op at left right
+    → IfOk r (HasActed e ids before after)
     → (rest : List Affine) (f g : Affine) → before ≡ (rest ++ f ∷ []) ++ g ∷ [] → IfOk r (IsPut (form_by op f g) rest after)
-combined (Ok b) op ids before after h rest f g is = h rest f g is
-combined (Err e) op ids before after h rest f g is = h
+unfolding hidden-the_row-Expr-1 hidden
+combined (Ok b) e op at left right ids before after is h rest f g k = subst (λ x. HasActed x ids before after b) is h rest f g k
+combined (Err x) e op at left right ids before after is h rest f g k = h

@@ -2,12 +2,12 @@
 
 ghost use Rattle.std.specs.Prelude.{◌≡◌, List, [], ◌∷◌, ◌++◌, None, Some, if◌then◌else◌, negsuc, IfOk};
 ghost use Rattle.nona_forms.specs.Affine.{Affine, if_bounded, times_form, constant_form, scalar_form, among, form_by};
-ghost use Rattle.nona_affine.specs.Put.{HasActed, IsPut};
+ghost use Rattle.nona_affine.specs.Put.{HasActed, IsPut, scope_ids};
 ghost use Rattle.nona_tree.specs.declared.trees.Op.TheVariants as op;
 
 use crate::names::{Ids, Names};
 use crate::tallies::Tally;
-use nona_tree::Op;
+use nona_tree::{Expr, Op};
 use std::alloc::{AllocError, Global};
 
 /// The product of two forms, of which one is a constant.
@@ -83,69 +83,59 @@ fn combine_last(alloc: Global, op: Op, forms: &mut Vec<Tally>) -> Result<bool, A
     }
 }
 
-/// Whether a scalar is the index of an inner loop or another one that may occur.
-#[tactic(auto, using(crate::proofs::Members::among_either))]
-fn may_occur(id: u32, inner: &Ids, names: &Names) -> bool
-    ensures { result ≡ among id (inner.now ++ names.now) }
-{
-    inner.has(id) || names.has(id)
+/// What all parts of an expression share while its form is worked out: where memory comes from, and the scalars that may occur.
+#[derive(Drop)]
+pub struct Scope<'a> {
+    pub alloc: Global,
+    /// The indices of some inner loops.
+    pub inner: &'a Ids,
+    /// Some other scalars.
+    pub names: &'a Names,
 }
 
-/// The form of a scalar, if it may occur.
-fn scalar(alloc: Global, id: u32, inner: &Ids, names: &Names) -> Result<Option<Tally>, AllocError>
-    ensures { IfOk result (λ o. o ≡ (if among id (inner.now ++ names.now) then Some (scalar_form id) else None)) }
-{
-    if may_occur(id, inner, names) {
-        let form = Tally::of_scalar(alloc, id)?;
-        Ok(Some(form))
-    } else {
-        Ok(None)
+impl<'a> Scope<'a> {
+    /// Whether a scalar may occur.
+    #[tactic(auto, using(crate::proofs::Members::among_either))]
+    fn has(&self, id: u32) -> bool
+        ensures { result ≡ among id (scope_ids self.now) }
+    {
+        self.inner.has(id) || self.names.has(id)
     }
-}
 
-/// Puts the form of a scalar behind others, if it may occur.
-fn put_scalar(
-    alloc: Global,
-    id: u32,
-    inner: &Ids,
-    names: &Names,
-    forms: &mut Vec<Tally>,
-) -> Result<bool, AllocError>
-    ensures { IfOk result (IsPut (if among id (inner.now ++ names.now) then Some (scalar_form id) else None) forms.old.items forms.new.items) }
-{
-    let form = scalar(alloc, id, inner, names)?;
-    put(form, forms)
-}
+    /// The form of a scalar, if it may occur.
+    fn scalar(&self, id: u32) -> Result<Option<Tally>, AllocError>
+        ensures { IfOk result (λ o. o ≡ (if among id (scope_ids self.now) then Some (scalar_form id) else None)) }
+    {
+        if self.has(id) {
+            let form = Tally::of_scalar(self.alloc, id)?;
+            Ok(Some(form))
+        } else {
+            Ok(None)
+        }
+    }
 
-/// What is done to forms that stand one behind another.
-#[derive(Clone, Copy)]
-pub enum Act {
-    /// The form of a number is put behind them, if it has one.
-    Number(i64),
-    /// The form of the scalar with this id is put behind them, if it may occur.
-    Scalar(u32),
-    /// The opposite of the last one is put in its place.
-    Turn,
-    /// What an operator makes of the last two is put in their place, where that is a form.
-    Combine(Op),
-}
+    /// Puts the form of a scalar behind others, if it may occur.
+    fn put_scalar(&self, id: u32, forms: &mut Vec<Tally>) -> Result<bool, AllocError>
+        ensures { IfOk result (IsPut (if among id (scope_ids self.now) then Some (scalar_form id) else None) forms.old.items forms.new.items) }
+    {
+        let form = self.scalar(id)?;
+        put(form, forms)
+    }
 
-/// Does this to the forms. `false` says that there is no form. Whoever goes down an expression calls it at several places: so no compiler
-/// takes what it needs of the stack into each level.
-#[inline(never)]
-pub fn perform(
-    alloc: Global,
-    act: Act,
-    inner: &Ids,
-    names: &Names,
-    forms: &mut Vec<Tally>,
-) -> Result<bool, AllocError>
-    ensures { IfOk result (HasActed act (inner.now ++ names.now) forms.old.items forms.new.items) }
-{
-    match act {
-        Act::Number(number) => put_number(alloc, number, forms),
-        Act::Scalar(id) => put_scalar(alloc, id, inner, names, forms),
-        Act::Turn => turn_last(forms),
-        Act::Combine(op) => combine_last(alloc, op, forms),
+    /// Takes the forms of an expression's parts, which are the last ones, and puts its own in their place, if it has one. `false` says
+    /// that it has none.
+    ///
+    /// Whoever goes down an expression calls it at several places: so no compiler takes what it needs of the stack into each level.
+    #[inline(never)]
+    pub fn act_on(&self, e: &Expr, forms: &mut Vec<Tally>) -> Result<bool, AllocError>
+        ensures { IfOk result (HasActed e.now (scope_ids self.now) forms.old.items forms.new.items) }
+    {
+        match e {
+            Expr::Number(number) => put_number(self.alloc, *number, forms),
+            Expr::Scalar(x) => self.put_scalar(x.id, forms),
+            Expr::Neg(_) => turn_last(forms),
+            Expr::Binary { op, .. } => combine_last(self.alloc, *op, forms),
+            Expr::Cell(_) | Expr::Len(_) | Expr::Not(_) => Ok(false),
+        }
     }
 }

@@ -2,9 +2,9 @@
 
 ghost use Rattle.std.specs.Prelude.{◌≡◌, ◌++◌, IfOk};
 ghost use Rattle.nona_forms.specs.Affine.{form_of};
-ghost use Rattle.nona_affine.specs.Put.{IsPut};
+ghost use Rattle.nona_affine.specs.Put.{IsPut, scope_ids};
 
-use crate::combining::{Act, perform};
+use crate::combining::Scope;
 use crate::names::{Ids, Names};
 use crate::tallies::Tally;
 use nona_forms::Form;
@@ -14,41 +14,30 @@ use std::alloc::{AllocError, Global};
 /// Puts the form of an expression behind others, if it has one; `false` says that it has none.
 ///
 /// An expression may be some 4,096 levels deep: 64 brackets with 64 operators in each. So a level takes little of the stack
-/// here: the forms of its parts stand in a list, and what is large is in a function of its own.
+/// here: the forms of its parts stand in a list, what all levels share in one struct, and what is large is in a function of its own.
 #[tactic(auto, using(crate::proofs::FormEquations::form_laws))]
-fn put_form(
-    alloc: Global,
-    e: &Expr,
-    inner: &Ids,
-    names: &Names,
-    forms: &mut Vec<Tally>,
-) -> Result<bool, AllocError>
-    ensures { IfOk result (IsPut (form_of e.now (inner.now ++ names.now)) forms.old.items forms.new.items) }
+fn put_form(scope: &Scope, e: &Expr, forms: &mut Vec<Tally>) -> Result<bool, AllocError>
+    ensures { IfOk result (IsPut (form_of e.now (scope_ids scope.now)) forms.old.items forms.new.items) }
 {
     match e {
-        Expr::Number(number) => perform(alloc, Act::Number(*number), inner, names, forms),
-        Expr::Scalar(x) => perform(alloc, Act::Scalar(x.id), inner, names, forms),
         Expr::Neg(part) => {
-            if !put_form(alloc, part.get(), inner, names, forms)? {
+            if !put_form(scope, part.get(), forms)? {
                 return Ok(false);
             }
-            perform(alloc, Act::Turn, inner, names, forms)
+            scope.act_on(e, forms)
         }
-        Expr::Binary {
-            op,
-            left,
-            right,
-            ..
-        } => {
-            if !put_form(alloc, left.get(), inner, names, forms)? {
+        Expr::Binary { left, right, .. } => {
+            if !put_form(scope, left.get(), forms)? {
                 return Ok(false);
             }
-            if !put_form(alloc, right.get(), inner, names, forms)? {
+            if !put_form(scope, right.get(), forms)? {
                 return Ok(false);
             }
-            perform(alloc, Act::Combine(*op), inner, names, forms)
+            scope.act_on(e, forms)
         }
-        Expr::Cell(_) | Expr::Len(_) | Expr::Not(_) => Ok(false),
+        Expr::Number(_) | Expr::Scalar(_) | Expr::Cell(_) | Expr::Len(_) | Expr::Not(_) => {
+            scope.act_on(e, forms)
+        }
     }
 }
 
@@ -61,8 +50,13 @@ pub fn form_inside(
 ) -> Result<Option<Form>, AllocError>
     ensures { IfOk result (λ o. o ≡ form_of e.now (inner.now ++ names.now)) }
 {
+    let scope = Scope {
+        alloc,
+        inner,
+        names,
+    };
     let mut forms = Vec::new(alloc);
-    if !put_form(alloc, e, inner, names, &mut forms)? {
+    if !put_form(&scope, e, &mut forms)? {
         return Ok(None);
     }
     match forms.pop() {

@@ -1,4 +1,5 @@
 pub mod Named
+pub mod Copies
 pub mod Ties
 pub mod Thread
 pub mod Units
@@ -7,5 +8,12 @@ pub mod Turns
 pub mod Spared
 pub mod Together
 pub mod Partials
+pub mod Places
 pub mod Examples
+pub mod Parts
 pub mod Added
+pub mod Same
+pub mod Handed
+pub mod Left
+pub mod Whole
+pub mod WholeExamples

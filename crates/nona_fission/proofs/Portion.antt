@@ -17,6 +17,7 @@ use Rattle.nona_tree.proofs.DeedLaws.{each_of_both}
 use Rattle.nona_tree.proofs.Depth.{was_done, all_grow}
 use Rattle.nona_tree.proofs.I64.{run_fits}
 use Rattle.nona_tree.proofs.Keeps.{NoFewer, scalars_kept, run_kept}
+use Rattle.nona_forms.specs.Affine.{among}
 use Rattle.nona_forms.specs.Touched.{IsOfAccess}
 use Rattle.nona_forms.proofs.Sound.{all_of_two}
 use Rattle.nona_plans.specs.Mentions.{reduction_of}
@@ -25,11 +26,11 @@ use Rattle.nona_parts.specs.Sharing.{index_of, iteration, iteration_deeds, is_wr
 use Rattle.nona_parts.proofs.Alike.{Bond, Bound, declare_bound, cut_bound}
 use Rattle.nona_parts.proofs.Tasks.{thread, AreJoined, as_done, declare_numbers}
 use Rattle.nona_parts.proofs.Untied.{or_none}
-use Rattle.nona_parts.proofs.Together.{all_spared}
-use Rattle.nona_fission.specs.Fission.{Fission, MayBeApart, skipped, portion, portion_deeds, locals_in, own_iteration, own_iteration_deeds}
+use Rattle.nona_fission.specs.Fission.{Fission, MayBeApart, skipped, portion, portion_deeds, own_iteration, own_iteration_deeds}
 use Rattle.nona_fission.proofs.Named.{deeds_named}
 use Rattle.nona_fission.proofs.Thread.{thread_depth, body_done, index_number, OwnHas, unit_numbers, IsFront, front_next}
-use Rattle.nona_fission.proofs.Units.{IsWhole, IsPrinting, OwnTouches, unit_bond, has_inner, weaker, OwnDeed, own_each, skipped_fits, local_fits, all_spare, other_bound, own_alike, index_within}
+use Rattle.nona_fission.proofs.Units.{IsWhole, AllHave, IsPrinting, IsCellLinked, unit_bond, has_inner, weaker, OwnDeed, own_each, skipped_fits, all_spare, other_bound, own_alike, index_within}
+use Rattle.nona_fission.proofs.Spared.{all_spared}
 
 -- what an iteration leaves of the links
 pub record IsOuter (s : Fission) (m0 q0 : Memory) (x : ℕ) (u v : ℤ) : Type 0 where
@@ -40,7 +41,7 @@ abbrev pub outer_bond : Fission → ℕ → Memory → Memory → Bond
 outer_bond s t m0 q0 = record {
   depth = s.sharing.entry.looped.index.id;
   scalar = IsOuter s m0 q0;
-  cell = λ a p u v. OwnTouches s t a p → v ≡ u;
+  cell = IsCellLinked s t (AllHave s) m0 q0;
   printed = λ us vs. IsPrinting s → vs ≡ us;
 }
 
@@ -50,7 +51,7 @@ pub record UnitsAre (s : Fission) (t k : ℕ) (m m0 q0 : Memory) (r : Ran) (ds t
   pub numbers : AreI64 r.store
   pub bound : Bound (outer_bond s t m0 q0) m r.store
   pub deeds : AllByRecursion (OwnDeed s k) ds
-  pub spared : (a p : ℕ) → OwnHas s arrays_in a → list_any (is_write a p) ds ≡ false → AllByRecursion (SparesCell a p) ts
+  pub spared : (a p : ℕ) → OwnHas s arrays_in a → among a s.folded ≡ false → list_any (is_write a p) ds ≡ false → AllByRecursion (SparesCell a p) ts
 
 to_outer : (s : Fission) (t from depth : ℕ) (m0 q0 m q : Memory) → s.sharing.entry.looped.index.id ≤ length m.scalars → Bound (unit_bond s t from depth m0 q0) m q → Bound (outer_bond s t m0 q0) m q
 to_outer s t from depth m0 q0 m q deep h = record {
@@ -75,7 +76,7 @@ pub record UnitsBegin (s : Fission) (t k from : ℕ) (front rest : List Stmt) (m
 abbrev GoesOn : Fission → ℕ → ℕ → List Stmt → Stmt → List Stmt → Memory → Memory → Type 0
 GoesOn s t k front stmt rest m0 q0 =
     (m q : Memory) → UnitsBegin s t k (suc (suc (length front))) (front ++ stmt ∷ []) rest m q m0 q0
-    → UnitsAre s t k (run_all rest s.sharing.entry.turns m).store m0 q0 (portion s.own (locals_in s k) (suc (suc (length front))) rest s.sharing.entry.turns q) (portion_deeds s.own (locals_in s k) (suc (suc (length front))) rest s.sharing.entry.turns q) (deeds_all rest s.sharing.entry.turns m)
+    → UnitsAre s t k (run_all rest s.sharing.entry.turns m).store m0 q0 (portion s.own (s.locals k) (suc (suc (length front))) rest s.sharing.entry.turns q) (portion_deeds s.own (s.locals k) (suc (suc (length front))) rest s.sharing.entry.turns q) (deeds_all rest s.sharing.entry.turns m)
 
 -- an own unit is done in both, with the same deeds, and what stands goes on
 pub record OwnStep (s : Fission) (t k : ℕ) (front : List Stmt) (stmt : Stmt) (rest : List Stmt) (m q m0 q0 : Memory) : Type 0 where
@@ -112,7 +113,7 @@ own_step s h t k front stmt rest m q m0 q0 own below mine fm fq begin =
 
 -- past another unit what stands goes on
 pub other_step : (s : Fission) → MayBeApart s → (t k : ℕ) (front : List Stmt) (stmt : Stmt) (rest : List Stmt) (m q m0 q0 : Memory) → s.own (suc (length front)) ≡ false → k < s.sharing.count
-    → UnitsBegin s t k (suc (length front)) front (stmt ∷ rest) m q m0 q0 → UnitsBegin s t k (suc (suc (length front))) (front ++ stmt ∷ []) rest (run stmt s.sharing.entry.turns m).store (skipped (locals_in s k) stmt q) m0 q0
+    → UnitsBegin s t k (suc (length front)) front (stmt ∷ rest) m q m0 q0 → UnitsBegin s t k (suc (suc (length front))) (front ++ stmt ∷ []) rest (run stmt s.sharing.entry.turns m).store (skipped (s.locals k) stmt q) m0 q0
 other_step s h t k front stmt rest m q m0 q0 own below begin =
     let n = s.sharing.entry.turns in
     let at = begin.at in
@@ -124,15 +125,15 @@ other_step s h t k front stmt rest m q m0 q0 own below begin =
       at = front_next s k front stmt rest m m' at ran;
       ends = sym (ap (λ (r : Ran). r.end) whole.1) ∙ begin.ends;
       access = subst (λ (o : Outcome). AllByRecursion (IsOfAccess s.sharing.entry.looped s.sharing.entry.store (index_of s.sharing.entry s.sharing.first k)) (on_end m' o (deeds_all rest n))) whole.0 parts.1;
-      numbers = skipped_fits (locals_in s k) stmt q (local_fits s h k below) begin.numbers;
+      numbers = skipped_fits (s.locals k) stmt q (λ x. h.numbers k x below) begin.numbers;
       bound = other_bound s h t k front stmt rest m q m' m0 q0 below at own ran parts.0 begin.bound;
     }
 
 unit_first : (s : Fission) → MayBeApart s → (t k : ℕ) (front : List Stmt) (stmt : Stmt) (rest : List Stmt) (m q m0 q0 : Memory) (own : Bool) → s.own (suc (length front)) ≡ own → k < s.sharing.count → s.sharing.owner k ≡ t → AreI64 m0 → AreI64 q0
     → UnitsBegin s t k (suc (length front)) front (stmt ∷ rest) m q m0 q0 → GoesOn s t k front stmt rest m0 q0
     → UnitsAre s t k (run_all (stmt ∷ rest) s.sharing.entry.turns m).store m0 q0
-    (if own then then_do (run stmt s.sharing.entry.turns q) (portion s.own (locals_in s k) (suc (suc (length front))) rest s.sharing.entry.turns) else portion s.own (locals_in s k) (suc (suc (length front))) rest s.sharing.entry.turns (skipped (locals_in s k) stmt q))
-    (if own then deeds stmt s.sharing.entry.turns q ++ on_done (run stmt s.sharing.entry.turns q) (portion_deeds s.own (locals_in s k) (suc (suc (length front))) rest s.sharing.entry.turns) else portion_deeds s.own (locals_in s k) (suc (suc (length front))) rest s.sharing.entry.turns (skipped (locals_in s k) stmt q))
+    (if own then then_do (run stmt s.sharing.entry.turns q) (portion s.own (s.locals k) (suc (suc (length front))) rest s.sharing.entry.turns) else portion s.own (s.locals k) (suc (suc (length front))) rest s.sharing.entry.turns (skipped (s.locals k) stmt q))
+    (if own then deeds stmt s.sharing.entry.turns q ++ on_done (run stmt s.sharing.entry.turns q) (portion_deeds s.own (s.locals k) (suc (suc (length front))) rest s.sharing.entry.turns) else portion_deeds s.own (s.locals k) (suc (suc (length front))) rest s.sharing.entry.turns (skipped (s.locals k) stmt q))
     (deeds_all (stmt ∷ rest) s.sharing.entry.turns m)
 unit_first s h t k front stmt rest m q m0 q0 true own below mine fm fq begin go =
     let n = s.sharing.entry.turns in
@@ -144,20 +145,20 @@ unit_first s h t k front stmt rest m q m0 q0 true own below mine fm fq begin go 
     let step = own_step s h t k front stmt rest m q m0 q0 own below mine fm fq begin in
     let is_done = step.is_done in
     let rest_are = go m' q' step.later in
-    let goes : then_do (run stmt n q) (portion s.own (locals_in s k) (suc u) rest n) ≡ portion s.own (locals_in s k) (suc u) rest n q' = ap (λ (o : Outcome). then_from q' o (portion s.own (locals_in s k) (suc u) rest n)) is_done in
+    let goes : then_do (run stmt n q) (portion s.own (s.locals k) (suc u) rest n) ≡ portion s.own (s.locals k) (suc u) rest n q' = ap (λ (o : Outcome). then_from q' o (portion s.own (s.locals k) (suc u) rest n)) is_done in
     record {
       is_done = ap (λ (r : Ran). r.end) goes ∙ rest_are.is_done;
       numbers = subst (λ (r : Ran). AreI64 r.store) (sym goes) rest_are.numbers;
       bound = subst (λ (r : Ran). Bound (outer_bond s t m0 q0) (run_all (stmt ∷ rest) n m).store r.store) (sym goes)
-          (subst (λ (r : Ran). Bound (outer_bond s t m0 q0) r.store (portion s.own (locals_in s k) (suc u) rest n q').store) (sym whole.1) rest_are.bound);
+          (subst (λ (r : Ran). Bound (outer_bond s t m0 q0) r.store (portion s.own (s.locals k) (suc u) rest n q').store) (sym whole.1) rest_are.bound);
       deeds = all_of_two (OwnDeed s k) (deeds stmt n q) _
           (subst (AllByRecursion (OwnDeed s k)) (sym step.same) (own_each s k front stmt rest at.body own (deeds stmt n m) (deeds_named stmt n m) step.access))
-          (subst (λ (o : Outcome). AllByRecursion (OwnDeed s k) (on_end q' o (portion_deeds s.own (locals_in s k) (suc u) rest n))) (sym is_done) rest_are.deeds);
-      spared = λ a p has free.
+          (subst (λ (o : Outcome). AllByRecursion (OwnDeed s k) (on_end q' o (portion_deeds s.own (s.locals k) (suc u) rest n))) (sym is_done) rest_are.deeds);
+      spared = λ a p has plain free.
           let both = or_none (list_any (is_write a p) (deeds stmt n q)) _ (sym (list_any-append (is_write a p) (deeds stmt n q) _) ∙ free) in
           all_of_two (SparesCell a p) (deeds stmt n m) _ (all_spared a p (deeds stmt n m) (sym (ap (list_any (is_write a p)) step.same) ∙ both.0))
           (subst (λ (o : Outcome). AllByRecursion (SparesCell a p) (on_end m' o (deeds_all rest n))) (sym whole.0)
-          (rest_are.spared a p has (sym (ap (λ (o : Outcome). list_any (is_write a p) (on_end q' o (portion_deeds s.own (locals_in s k) (suc u) rest n))) is_done) ∙ both.1)));
+          (rest_are.spared a p has plain (sym (ap (λ (o : Outcome). list_any (is_write a p) (on_end q' o (portion_deeds s.own (s.locals k) (suc u) rest n))) is_done) ∙ both.1)));
     }
 unit_first s h t k front stmt rest m q m0 q0 false own below mine fm fq begin go =
     let n = s.sharing.entry.turns in
@@ -165,17 +166,17 @@ unit_first s h t k front stmt rest m q m0 q0 false own below mine fm fq begin go
     let at = begin.at in
     let whole = was_done (run stmt n m).store (run stmt n m).end (run_all rest n) begin.ends in
     let m' = (run stmt n m).store in
-    let q' = skipped (locals_in s k) stmt q in
+    let q' = skipped (s.locals k) stmt q in
     let parts = each_of_both (IsOfAccess s.sharing.entry.looped s.sharing.entry.store (index_of s.sharing.entry s.sharing.first k)) (deeds stmt n m) _ begin.access in
     let rest_are = go m' q' (other_step s h t k front stmt rest m q m0 q0 own below begin) in
     record {
       is_done = rest_are.is_done;
       numbers = rest_are.numbers;
-      bound = subst (λ (r : Ran). Bound (outer_bond s t m0 q0) r.store (portion s.own (locals_in s k) (suc u) rest n q').store) (sym whole.1) rest_are.bound;
+      bound = subst (λ (r : Ran). Bound (outer_bond s t m0 q0) r.store (portion s.own (s.locals k) (suc u) rest n q').store) (sym whole.1) rest_are.bound;
       deeds = rest_are.deeds;
-      spared = λ a p has free.
-          all_of_two (SparesCell a p) (deeds stmt n m) _ (all_spare s h k front stmt rest a p at.body own has (deeds stmt n m) (deeds_named stmt n m) parts.0)
-          (subst (λ (o : Outcome). AllByRecursion (SparesCell a p) (on_end m' o (deeds_all rest n))) (sym whole.0) (rest_are.spared a p has free));
+      spared = λ a p has plain free.
+          all_of_two (SparesCell a p) (deeds stmt n m) _ (all_spare s h k front stmt rest a p at.body own has plain (deeds stmt n m) (deeds_named stmt n m) parts.0)
+          (subst (λ (o : Outcome). AllByRecursion (SparesCell a p) (on_end m' o (deeds_all rest n))) (sym whole.0) (rest_are.spared a p has plain free));
     }
 
 pub one_more : (front : List Stmt) (stmt : Stmt) → suc (length (front ++ stmt ∷ [])) ≡ suc (suc (length front))
@@ -183,7 +184,7 @@ one_more front stmt = let count = length-append front (stmt ∷ []) in omega (ar
 
 units_are : (s : Fission) → MayBeApart s → (t k : ℕ) → k < s.sharing.count → s.sharing.owner k ≡ t → (rest front : List Stmt) (m q m0 q0 : Memory) → AreI64 m0 → AreI64 q0
     → UnitsBegin s t k (suc (length front)) front rest m q m0 q0
-    → UnitsAre s t k (run_all rest s.sharing.entry.turns m).store m0 q0 (portion s.own (locals_in s k) (suc (length front)) rest s.sharing.entry.turns q) (portion_deeds s.own (locals_in s k) (suc (length front)) rest s.sharing.entry.turns q) (deeds_all rest s.sharing.entry.turns m)
+    → UnitsAre s t k (run_all rest s.sharing.entry.turns m).store m0 q0 (portion s.own (s.locals k) (suc (length front)) rest s.sharing.entry.turns q) (portion_deeds s.own (s.locals k) (suc (length front)) rest s.sharing.entry.turns q) (deeds_all rest s.sharing.entry.turns m)
 units_are s h t k below mine [] front m q m0 q0 fm fq begin =
     let index = index_within s h k front [] m below begin.at in
     record {
@@ -191,11 +192,11 @@ units_are s h t k below mine [] front m q m0 q0 fm fq begin =
       numbers = begin.numbers;
       bound = to_outer s t (suc (length front)) (length m.scalars) m0 q0 m q (omega (arith, index)) begin.bound;
       deeds = tt;
-      spared = λ a p has free. tt;
+      spared = λ a p has plain free. tt;
     }
 units_are s h t k below mine (stmt ∷ rest) front m q m0 q0 fm fq begin =
     unit_first s h t k front stmt rest m q m0 q0 (s.own (suc (length front))) refl below mine fm fq begin
-    (λ m' q'. subst (λ (u : ℕ). UnitsBegin s t k u (front ++ stmt ∷ []) rest m' q' m0 q0 → UnitsAre s t k (run_all rest s.sharing.entry.turns m').store m0 q0 (portion s.own (locals_in s k) u rest s.sharing.entry.turns q') (portion_deeds s.own (locals_in s k) u rest s.sharing.entry.turns q') (deeds_all rest s.sharing.entry.turns m')) (one_more front stmt) (units_are s h t k below mine rest (front ++ stmt ∷ []) m' q' m0 q0 fm fq))
+    (λ m' q'. subst (λ (u : ℕ). UnitsBegin s t k u (front ++ stmt ∷ []) rest m' q' m0 q0 → UnitsAre s t k (run_all rest s.sharing.entry.turns m').store m0 q0 (portion s.own (s.locals k) u rest s.sharing.entry.turns q') (portion_deeds s.own (s.locals k) u rest s.sharing.entry.turns q') (deeds_all rest s.sharing.entry.turns m')) (one_more front stmt) (units_are s h t k below mine rest (front ++ stmt ∷ []) m' q' m0 q0 fm fq))
 
 -- an iteration
 
@@ -223,7 +224,7 @@ iteration_begins s h t k q below fq of bound =
     let longer = length-append m.scalars (i ∷ []) in
     let m1 = declare i m in
     let q1 = declare i q in
-    let declared = declare_bound (unit_bond s t 1 l.index.id m q) i m q (has_inner s t 1 l.index.id (IsWhole s) m q (omega arith)) fits (begin_inner s t m q m q depth bound) in
+    let declared = declare_bound (unit_bond s t 1 l.index.id m q) i m q (has_inner s t 1 l.index.id (AllHave s) m q (omega arith)) fits (begin_inner s t m q m q depth bound) in
     record {
       at = record { body = refl; ran = refl };
       ends = body_done s h k below;
@@ -250,7 +251,7 @@ iteration_are s h t k q below mine fq of bound =
     record {
       is_done = units.is_done;
       numbers = record { scalars = All-take IsI64 (length q.scalars) _ units.numbers.scalars; arrays = units.numbers.arrays; printed = units.numbers.printed };
-      bound = cut_bound (outer_bond s t m q) m q (run_all l.body n m1).store (portion s.own (locals_in s k) 1 l.body n q1).store bound more units.bound;
+      bound = cut_bound (outer_bond s t m q) m q (run_all l.body n m1).store (portion s.own (s.locals k) 1 l.body n q1).store bound more units.bound;
       deeds = units.deeds;
       spared = units.spared;
     }

@@ -1,22 +1,46 @@
 -- The own units of an iteration change only what their deeds name.
-use Rattle.std.proofs.Common.{◌≡◌, ℕ, suc, ◌<◌, ◌≤◌, Bool, true, false, ℤ, pos, List, [], ◌∷◌, ◌++◌, length, refl, ap, ◌∙◌, arith, if◌then◌else◌, length-append}
+use Rattle.std.proofs.Common.{◌≡◌, ℕ, suc, ◌<◌, ◌≤◌, Bool, true, false, ℤ, pos, List, [], ◌∷◌, ◌++◌, length, refl, ap, ◌∙◌, arith, if◌then◌else◌, length-append, ◌≢◌, ◌==◌, ◌&&◌}
 use Rattle.std.specs.Prelude.{slice_index_or}
-use Rattle.std.specs.List.{AllByRecursion}
+use Rattle.std.specs.List.{AllByRecursion, Contains, list_any}
 use Rattle.std.proofs.lemmas.List.{get_or-take, get_or_append_left}
-use Rattle.std.proofs.lemmas.List.Elements.{All-from_recursion}
+use Rattle.std.proofs.lemmas.List.Elements.{All-from_recursion, Contains-append_left, Contains-append_right}
 use Rattle.nona_tree.specs.declared.outcomes.Outcome.{Outcome}
 use Rattle.nona_tree.specs.declared.outcomes.Outcome.TheVariants as outcome
 use Rattle.nona_tree.specs.declared.trees.Stmt.{Stmt}
 use Rattle.nona_tree.specs.Beside.{on_end, on_done}
-use Rattle.nona_tree.specs.Deeds.{Deed, deeds, SparesScalar, SparesCell, SparesPrinted}
+use Rattle.nona_tree.specs.Deeds.{Deed, deeds, SparesScalar, SparesCell, SparesPrinted, reads, sets, folds, loads, stores, joins, prints}
 use Rattle.nona_tree.specs.Memory.{Memory, scalar_at, cell_at, declare}
 use Rattle.nona_tree.specs.Run.{Ran, then_from, then_do, run}
 use Rattle.nona_tree.specs.Scope.{is_let}
 use Rattle.nona_tree.proofs.DeedLaws.{each_of_both, scalar_stays, cell_stays, printed_stays}
 use Rattle.nona_tree.proofs.Keeps.{NoFewer, scalars_kept, run_kept}
-use Rattle.nona_parts.specs.Sharing.{index_of}
-use Rattle.nona_fission.specs.Fission.{Fission, skipped, portion, portion_deeds, locals_in, own_iteration, own_iteration_deeds}
+use Rattle.nona_forms.specs.References.{assigned, assigned_all}
+use Rattle.nona_forms.proofs.Sound.{all_of_two}
+use Rattle.nona_parts.specs.Sharing.{index_of, is_write}
+use Rattle.nona_parts.proofs.Tasks.{each_of}
+use Rattle.nona_parts.proofs.Untied.{or_none}
+use Rattle.nona_fission.specs.Fission.{Fission, skipped, portion, portion_deeds, own_iteration, own_iteration_deeds}
+use Rattle.nona_fission.proofs.Named.{end_all, if_all, IsNamedIn, text_of, deeds_named}
+use Rattle.nona_fission.proofs.Thread.{spares}
 use Rattle.nona_fission.proofs.Units.{skipped_arrays, skipped_printed, skipped_depth, skipped_scalar, no_shallower}
+
+-- deeds of which none writes a cell
+
+not_same : (a b c d : ℕ) → (a == b && c == d) ≡ false → a ≡ b → c ≢ d
+not_same a b c d e same_a same_c = grind (arith, e, same_a, same_c)
+
+spared : (a p : ℕ) (d : Deed) → is_write a p d ≡ false → SparesCell a p d
+spared a p (reads x) e = tt
+spared a p (sets x) e = tt
+spared a p (folds f x) e = tt
+spared a p (loads b c) e = tt
+spared a p (stores b c) e = not_same b a c p e
+spared a p (joins f b c) e = not_same b a c p e
+spared a p prints e = tt
+
+pub all_spared : (a p : ℕ) (ds : List Deed) → list_any (is_write a p) ds ≡ false → AllByRecursion (SparesCell a p) ds
+all_spared a p [] e = tt
+all_spared a p (d ∷ ds) e = let two = or_none (is_write a p d) (list_any (is_write a p) ds) e in (spared a p d two.0, all_spared a p ds two.1)
 
 -- a relation between stores that a run has whose deeds are all spared
 record IsSpared (S : Deed → Type 0) (R : Memory → Memory → Type 0) : Type 0 where
@@ -82,18 +106,33 @@ scalars_spared x = record {
 
 pub iteration_cell : (s : Fission) (k a p : ℕ) (q : Memory) → AllByRecursion (SparesCell a p) (own_iteration_deeds s k q) → cell_at (own_iteration s k q).store a p ≡ cell_at q a p
 iteration_cell s k a p q each =
-    portion_spared (SparesCell a p) (λ m r. cell_at r a p ≡ cell_at m a p) (cells_spared a p) s.own (locals_in s k) 1 s.sharing.entry.looped.body s.sharing.entry.turns (declare (index_of s.sharing.entry s.sharing.first k) q) each
+    portion_spared (SparesCell a p) (λ m r. cell_at r a p ≡ cell_at m a p) (cells_spared a p) s.own (s.locals k) 1 s.sharing.entry.looped.body s.sharing.entry.turns (declare (index_of s.sharing.entry s.sharing.first k) q) each
 
 pub iteration_printed : (s : Fission) (k : ℕ) (q : Memory) → AllByRecursion SparesPrinted (own_iteration_deeds s k q) → (own_iteration s k q).store.printed ≡ q.printed
 iteration_printed s k q each =
-    portion_spared SparesPrinted (λ m r. r.printed ≡ m.printed) printed_spared s.own (locals_in s k) 1 s.sharing.entry.looped.body s.sharing.entry.turns (declare (index_of s.sharing.entry s.sharing.first k) q) each
+    portion_spared SparesPrinted (λ m r. r.printed ≡ m.printed) printed_spared s.own (s.locals k) 1 s.sharing.entry.looped.body s.sharing.entry.turns (declare (index_of s.sharing.entry s.sharing.first k) q) each
 
 pub iteration_scalar : (s : Fission) (k x : ℕ) (q : Memory) → x < length q.scalars → AllByRecursion (SparesScalar x) (own_iteration_deeds s k q) → scalar_at (own_iteration s k q).store x ≡ scalar_at q x
 iteration_scalar s k x q below each =
     let i = index_of s.sharing.entry s.sharing.first k in
     let longer = length-append q.scalars (i ∷ []) in
-    let kept = portion_spared (SparesScalar x) (KeepsScalar x) (scalars_spared x) s.own (locals_in s k) 1 s.sharing.entry.looped.body s.sharing.entry.turns (declare i q) each (omega (arith, below, longer)) in
+    let kept = portion_spared (SparesScalar x) (KeepsScalar x) (scalars_spared x) s.own (s.locals k) 1 s.sharing.entry.looped.body s.sharing.entry.turns (declare i q) each (omega (arith, below, longer)) in
     get_or-take (length q.scalars) _ x (pos 0) below ∙ kept.1 ∙ get_or_append_left q.scalars (i ∷ []) (pos 0) x below
+
+-- a scalar that no text of these units assigns stays
+
+portion_spares : (own : ℕ → Bool) (locals : ℕ → ℤ) (unit : ℕ) (ss : List Stmt) (n : ℕ) (m : Memory) (x : ℕ) → (Contains (assigned_all ss) x → ⊥) → AllByRecursion (SparesScalar x) (portion_deeds own locals unit ss n m)
+portion_spares own locals unit [] n m x free = tt
+portion_spares own locals unit (s ∷ rest) n m x free =
+    let later : Contains (assigned_all rest) x → ⊥ = (λ c. free (Contains-append_right (assigned s) (assigned_all rest) x c)) in
+    if_all (SparesScalar x) (own unit) _ _
+    (all_of_two (SparesScalar x) (deeds s n m) _ (each_of (IsNamedIn (text_of s)) (SparesScalar x) (spares s x (λ c. free (Contains-append_left (assigned s) (assigned_all rest) x c))) (deeds s n m) (deeds_named s n m))
+    (end_all (SparesScalar x) (run s n m).store (run s n m).end (portion_deeds own locals (suc unit) rest n) (λ r. portion_spares own locals (suc unit) rest n r x later)))
+    (portion_spares own locals (suc unit) rest n (skipped locals s m) x later)
+
+pub portion_unassigned : (own : ℕ → Bool) (locals : ℕ → ℤ) (unit : ℕ) (ss : List Stmt) (n : ℕ) (m : Memory) (x : ℕ) → x < length m.scalars → (Contains (assigned_all ss) x → ⊥) → scalar_at (portion own locals unit ss n m).store x ≡ scalar_at m x
+portion_unassigned own locals unit ss n m x below free =
+    (portion_spared (SparesScalar x) (KeepsScalar x) (scalars_spared x) own locals unit ss n m (portion_spares own locals unit ss n m x free) below).1
 
 -- no scalar is dropped
 

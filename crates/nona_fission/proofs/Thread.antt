@@ -36,11 +36,10 @@ use Rattle.nona_plans.specs.Mentions.{mentions, mentions_all}
 use Rattle.nona_plans.specs.Units.{arrays_in, unit_has, are_told_apart, local_of, locals_from}
 use Rattle.nona_plans.specs.Walks.{IsUnit}
 use Rattle.nona_parts.specs.Sharing.{Sharing, store_before, index_of, iteration}
-use Rattle.nona_parts.proofs.Told.{end_all}
 use Rattle.nona_parts.proofs.Untied.{among_in}
 use Rattle.nona_parts.proofs.Tasks.{thread, thread_zero, from_low, as_done, further, between_fits, declare_numbers, each_of}
 use Rattle.nona_fission.specs.Fission.{Fission, MayBeApart}
-use Rattle.nona_fission.proofs.Named.{IsNamedIn, text_of, deeds_named}
+use Rattle.nona_fission.proofs.Named.{end_all, IsNamedIn, text_of, deeds_named}
 use Rattle.nona_fission.proofs.Ties.{IsFree, own_told_apart}
 
 -- iterations
@@ -120,17 +119,17 @@ apart_separate s h x y c d e =
 other_index : (s : Sharing) (j k : ℕ) → j ≢ k → index_of s.entry s.first j ≢ index_of s.entry s.first k
 other_index s j k apart e = apart (omega (arith, ints, e))
 
--- what one iteration writes, no other touches
-pub no_clash : (s : Fission) → MayBeApart s → IsFree s → (j k a p : ℕ) (write : Bool) → OwnHas s arrays_in a → j < s.sharing.count → k < s.sharing.count → j ≢ k
+-- what one iteration writes of an array without copies, no other touches
+pub no_clash : (s : Fission) → MayBeApart s → IsFree s → (j k a p : ℕ) (write : Bool) → OwnHas s arrays_in a → among a s.folded ≡ false → j < s.sharing.count → k < s.sharing.count → j ≢ k
     → IsTouched s.sharing.entry.looped s.sharing.entry.store (index_of s.sharing.entry s.sharing.first j) true a p → IsTouched s.sharing.entry.looped s.sharing.entry.store (index_of s.sharing.entry s.sharing.first k) write a p → ⊥
-no_clash s h free j k a p write array below_j below_k apart (x, c, writes, at_x, touch_x) (y, d, w, at_y, touch_y) =
+no_clash s h free j k a p write array plain below_j below_k apart (x, c, writes, at_x, touch_x) (y, d, w, at_y, touch_y) =
     let l = s.sharing.entry.looped in
     let i = index_of s.sharing.entry s.sharing.first j in
     let o = index_of s.sharing.entry s.sharing.first k in
     ⊎_elim
     (λ (e : are_told_apart l x y ≡ true). apart_separate s h x y c d e i o p (from_low s.sharing j) (to_last s h j below_j) (from_low s.sharing k) (to_last s h k below_k) (other_index s.sharing j k apart) touch_x touch_y)
     (λ (e : are_told_apart l y x ≡ true). apart_separate s h y x d c e o i p (from_low s.sharing k) (to_last s h k below_k) (from_low s.sharing j) (to_last s h j below_j) (other_index s.sharing k j (λ same. apart (sym same))) touch_y touch_x)
-    (own_told_apart s free array.unit x y array.is_unit array.own (subst (λ z. unit_has arrays_in l array.unit z ≡ true) (sym at_x) array.has) c d writes (at_x ∙ sym at_y))
+    (own_told_apart s free array.unit x y array.is_unit array.own (subst (λ z. unit_has arrays_in l array.unit z ≡ true) (sym at_x) array.has) c d writes (ap (λ z. among z s.folded) at_x ∙ plain) (at_x ∙ sym at_y))
 
 -- what a unit of the body is
 
@@ -172,7 +171,7 @@ unit_assigned l front s rest e id c =
 
 -- a scalar that a text doesn't assign
 
-spares : (s : Stmt) (x : ℕ) → (Contains (assigned s) x → ⊥) → (d : Deed) → IsNamedIn (text_of s) d → SparesScalar x d
+pub spares : (s : Stmt) (x : ℕ) → (Contains (assigned s) x → ⊥) → (d : Deed) → IsNamedIn (text_of s) d → SparesScalar x d
 spares s x free (reads y) c = tt
 spares s x free (sets y) c = λ same. free (subst (Contains (assigned s)) same c.1)
 spares s x free (folds f y) c = λ same. free (subst (Contains (assigned s)) same c.1)

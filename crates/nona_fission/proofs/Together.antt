@@ -1,9 +1,12 @@
 -- What the tasks give together, and what each keeps.
-use Rattle.std.proofs.Common.{◌≡◌, ◌≢◌, ⊎_elim, ℕ, zero, suc, ◌<◌, ◌≤◌, ◌==◌, Bool, true, false, ◌&&◌, pos, List, [], ◌∷◌, length, refl, sym, ap, ◌∙◌, subst, arith}
-use Rattle.std.specs.Prelude.{None, slice_index_or}
+use Rattle.std.proofs.Common.{◌≡◌, ◌≢◌, ⊎_elim, ℕ, zero, suc, ◌<◌, ◌≤◌, ◌==◌, Bool, true, false, ◌&&◌, List, [], ◌∷◌, length, refl, sym, ap, ◌∙◌, subst, arith, ◌⊎◌, inl, inr, ◌||◌, pos}
+use Rattle.std.specs.Prelude.{Some, None}
 use Rattle.std.specs.List.{AllByRecursion, list_any}
 use Rattle.std.proofs.lemmas.Bool.{cases_eq, cases_lt}
 use Rattle.std.proofs.lemmas.List.Folds.{list_any-append}
+use Rattle.std.proofs.lemmas.List.{get_or_past}
+use Rattle.nona_num.specs.declared.folds.Fold.{Fold}
+use Rattle.nona_num.specs.Folds.{unit_of}
 use Rattle.nona_tree.specs.declared.outcomes.Outcome.{Outcome}
 use Rattle.nona_tree.specs.declared.outcomes.Outcome.TheVariants as outcome
 use Rattle.nona_tree.specs.Beside.{on_done, on_end}
@@ -11,22 +14,25 @@ use Rattle.nona_tree.specs.Deeds.{Deed, reads, sets, folds, loads, stores, joins
 use Rattle.nona_tree.specs.Memory.{Memory, scalar_at, cells_of, cell_at}
 use Rattle.nona_tree.specs.Numbers.{AreI64}
 use Rattle.nona_tree.specs.Run.{Ran, then_do}
+use Rattle.nona_forms.specs.Affine.{among}
 use Rattle.nona_forms.specs.References.{assigned}
 use Rattle.nona_forms.specs.Touched.{IsTouched}
-use Rattle.nona_plans.specs.Mentions.{reduction_of, prints as has_print}
-use Rattle.nona_plans.specs.Units.{named_in, arrays_in, unit_has, unit_prints, reductions_of}
+use Rattle.nona_plans.specs.Mentions.{plainly, reduction_of, prints as has_print}
+use Rattle.nona_plans.specs.Units.{named_in, arrays_in, unit_has, unit_prints}
 use Rattle.nona_plans.specs.Walks.{IsUnit}
-use Rattle.nona_parts.specs.Sharing.{store_before, store_behind, index_of, store_begun, is_write}
-use Rattle.nona_parts.proofs.Untied.{or_none, no_and_yes}
-use Rattle.nona_parts.proofs.Begun.{units_arrays, units_printed, other_begins}
+use Rattle.nona_plans.proofs.Leading.{same_units, both}
+use Rattle.nona_parts.specs.Sharing.{store_before, store_behind, index_of, is_write}
+use Rattle.nona_parts.proofs.Untied.{or_none, no_and_yes, same_number}
+use Rattle.nona_parts.proofs.Begun.{other_begins}
 use Rattle.nona_parts.proofs.Tasks.{thread, thread_zero, each_of}
-use Rattle.nona_parts.proofs.Together.{same_cell, or_cases, all_spared, cell_past, self_same}
-use Rattle.nona_fission.specs.Fission.{Fission, MayBeApart, own_iteration, own_iteration_deeds, own_run, own_writes}
+use Rattle.nona_fission.specs.FoldArrays.{fold_array_of}
+use Rattle.nona_fission.specs.Fission.{Fission, MayBeApart, own_iteration, own_iteration_deeds, own_run, own_writes, own_copy, part_begun}
+use Rattle.nona_fission.proofs.Named.{cell_named_in}
 use Rattle.nona_fission.proofs.Ties.{IsFree, unit_at, is_unit, no_printing}
 use Rattle.nona_fission.proofs.Thread.{thread_begins, before_begins, OwnHas, no_clash}
 use Rattle.nona_fission.proofs.Units.{OwnDeed, own_has}
-use Rattle.nona_fission.proofs.Turns.{step, step_deeds, turns_to, deeds_to, over_to, given_to, own_are, thread_cell, stands_at}
-use Rattle.nona_fission.proofs.Spared.{iteration_cell, iteration_printed, iteration_scalar}
+use Rattle.nona_fission.proofs.Turns.{step, step_deeds, turns_to, deeds_to, over_to, given_to, part_begins, own_are, thread_cell, stands_at}
+use Rattle.nona_fission.proofs.Spared.{all_spared, iteration_cell, iteration_printed, iteration_scalar}
 
 pub task_done : (s : Fission) → MayBeApart s → (t : ℕ) → (own_run s t).end ≡ outcome.Done
 task_done s h t = ap (λ (r : Ran). r.end) (over_to s t s.sharing.count) ∙ (stands_at s h t s.sharing.count (omega arith)).is_done
@@ -34,6 +40,16 @@ task_done s h t = ap (λ (r : Ran). r.end) (over_to s t s.sharing.count) ∙ (st
 -- the deeds of a task's own iteration are those of own units
 pub own_deeds_are : (s : Fission) → MayBeApart s → (t k : ℕ) → k < s.sharing.count → s.sharing.owner k ≡ t → AllByRecursion (OwnDeed s k) (own_iteration_deeds s k (turns_to s t k).store)
 own_deeds_are s h t k below mine = (own_are s h t k below mine (stands_at s h t k (omega (arith, below)))).deeds
+
+same_cell : (a b c d : ℕ) → (a == b && c == d) ≡ true → (a ≡ b) × (c ≡ d)
+same_cell a b c d e = let two = both (a == b) (c == d) e in (same_units a b two.0, same_units c d two.1)
+
+pub or_cases : (a b : Bool) → (a || b) ≡ true → (a ≡ true) ⊎ (b ≡ true)
+or_cases true b e = inl refl
+or_cases false b e = inr e
+
+cell_past : (m : Memory) (a p : ℕ) → length (cells_of m a) ≤ p → cell_at m a p ≡ pos 0
+cell_past m a p past = get_or_past (cells_of m a) p (pos 0) past
 
 -- an iteration of a task writes a cell of an array that an own unit has
 record OwnWrites (s : Fission) (t a p : ℕ) : Type 0 where
@@ -60,8 +76,8 @@ one_write s t k a p below mine (reads x) e o = cc
 one_write s t k a p below mine (sets x) e o = cc
 one_write s t k a p below mine (folds f x) e o = cc
 one_write s t k a p below mine (loads b c) e o = cc
-one_write s t k a p below mine (stores b c) e o = write_at s t k a p b c below mine e (own_has s arrays_in o.front o.stmt o.rest b o.body o.own o.named) o.access
-one_write s t k a p below mine (joins f b c) e o = write_at s t k a p b c below mine e (own_has s arrays_in o.front o.stmt o.rest b o.body o.own o.named) o.access
+one_write s t k a p below mine (stores b c) e o = write_at s t k a p b c below mine e (own_has s arrays_in o.front o.stmt o.rest b o.body o.own (cell_named_in o.stmt (plainly b) o.named)) o.access
+one_write s t k a p below mine (joins f b c) e o = write_at s t k a p b c below mine e (own_has s arrays_in o.front o.stmt o.rest b o.body o.own (cell_named_in o.stmt (record { id = b; by = Some f }) o.named)) o.access
 one_write s t k a p below mine prints e o = cc
 
 some_write : (s : Fission) (t k a p : ℕ) → k < s.sharing.count → s.sharing.owner k ≡ t → (ds : List Deed) → list_any (is_write a p) ds ≡ true → AllByRecursion (OwnDeed s k) ds → OwnWrites s t a p
@@ -93,23 +109,23 @@ wrote_to s h t a p (suc k) below e =
 wrote : (s : Fission) → MayBeApart s → (t a p : ℕ) → own_writes s t a p ≡ true → OwnWrites s t a p
 wrote s h t a p e = wrote_to s h t a p s.sharing.count (omega arith) (sym (ap (list_any (is_write a p)) (given_to s t s.sharing.count)) ∙ e)
 
--- a cell that a task wrote is as one thread leaves it
-pub written : (s : Fission) → MayBeApart s → (t a p : ℕ) → own_writes s t a p ≡ true → cell_at (own_run s t).store a p ≡ cell_at (store_behind s.sharing) a p
-written s h t a p e =
+-- a cell that a task wrote, of an array without copies, is as one thread leaves it
+pub written : (s : Fission) → MayBeApart s → (t a p : ℕ) → among a s.folded ≡ false → own_writes s t a p ≡ true → cell_at (own_run s t).store a p ≡ cell_at (store_behind s.sharing) a p
+written s h t a p out e =
     let stands = stands_at s h t s.sharing.count (omega arith) in
     let later = thread_begins s h s.sharing.count (omega arith) in
     let w = wrote s h t a p e in
     ap (λ (r : Ran). cell_at r.store a p) (over_to s t s.sharing.count)
     ∙ ⊎_elim
-    (λ (there : p < length (cells_of (thread s.sharing s.sharing.count) a)). stands.cells a p there (record { array = w.array; turn = w.turn; below = w.below; mine = w.mine; write = true; touched = w.touched }))
+    (λ (there : p < length (cells_of (thread s.sharing s.sharing.count) a)). stands.cells a p there out (record { array = w.array; turn = w.turn; below = w.below; mine = w.mine; write = true; touched = w.touched }))
     (λ (past : length (cells_of (thread s.sharing s.sharing.count) a) ≤ p).
     let first = stands.sizes a in
     let second = later.kept.sizes a in
     cell_past (turns_to s t s.sharing.count).store a p (omega (arith, past, first, second)) ∙ sym (cell_past (thread s.sharing s.sharing.count) a p past))
     (cases_lt p (length (cells_of (thread s.sharing s.sharing.count) a)))
 
-pub written_once : (s : Fission) → MayBeApart s → (t u a p : ℕ) → own_writes s t a p ≡ true → own_writes s u a p ≡ true → t ≡ u
-written_once s h t u a p e g =
+pub written_once : (s : Fission) → MayBeApart s → (t u a p : ℕ) → among a s.folded ≡ false → own_writes s t a p ≡ true → own_writes s u a p ≡ true → t ≡ u
+written_once s h t u a p out e g =
     let w = wrote s h t a p e in
     let z = wrote s h u a p g in
     let mine = w.mine in
@@ -118,7 +134,7 @@ written_once s h t u a p e g =
     (λ (free : IsFree s).
     ⊎_elim
     (λ (same : w.turn ≡ z.turn). sym w.mine ∙ ap s.sharing.owner same ∙ z.mine)
-    (λ (apart : w.turn ≡ z.turn → ⊥). absurd (no_clash s h free w.turn z.turn a p true w.array w.below z.below apart w.touched z.touched))
+    (λ (apart : w.turn ≡ z.turn → ⊥). absurd (no_clash s h free w.turn z.turn a p true w.array out w.below z.below apart w.touched z.touched))
     (cases_eq w.turn z.turn))
     (λ (alone : s.sharing.tasks ≡ 1).
     let first = h.owned w.turn w.below in
@@ -126,11 +142,11 @@ written_once s h t u a p e g =
     omega (arith, alone, first, second, mine, other))
     h.free
 
--- a cell that no task wrote, of an array that an own unit has
+-- a cell that no task wrote, of an array without copies that an own unit has
 
-left_to : (s : Fission) → MayBeApart s → (a p k : ℕ) → OwnHas s arrays_in a → k ≤ s.sharing.count → ((t : ℕ) → t < s.sharing.tasks → list_any (is_write a p) (deeds_to s t k) ≡ false) → cell_at (thread s.sharing k) a p ≡ cell_at (thread s.sharing 0) a p
-left_to s h a p zero has below none = refl
-left_to s h a p (suc k) has below none =
+left_to : (s : Fission) → MayBeApart s → (a p k : ℕ) → OwnHas s arrays_in a → among a s.folded ≡ false → k ≤ s.sharing.count → ((t : ℕ) → t < s.sharing.tasks → list_any (is_write a p) (deeds_to s t k) ≡ false) → cell_at (thread s.sharing k) a p ≡ cell_at (thread s.sharing 0) a p
+left_to s h a p zero has out below none = refl
+left_to s h a p (suc k) has out below none =
     let t = s.sharing.owner k in
     let less : k < s.sharing.count = omega (arith, below) in
     let stands = stands_at s h t k (omega (arith, below)) in
@@ -138,13 +154,13 @@ left_to s h a p (suc k) has below none =
     let parts : (u : ℕ) → u < s.sharing.tasks → (list_any (is_write a p) (deeds_to s u k) ≡ false) × (list_any (is_write a p) (on_done (turns_to s u k) (step_deeds (s.sharing.owner k == u) s k)) ≡ false) =
     (λ u within. or_none (list_any (is_write a p) (deeds_to s u k)) _ (sym (list_any-append (is_write a p) (deeds_to s u k) _) ∙ none u within)) in
     let own : list_any (is_write a p) (step_deeds (s.sharing.owner k == t) s k q) ≡ false = sym (ap (λ (o : Outcome). list_any (is_write a p) (on_end q o (step_deeds (s.sharing.owner k == t) s k))) stands.is_done) ∙ (parts t (h.owned k less)).1 in
-    let of_task : list_any (is_write a p) (own_iteration_deeds s k q) ≡ false = sym (ap (λ (b : Bool). list_any (is_write a p) (step_deeds b s k q)) (self_same t)) ∙ own in
-    thread_cell s h k a p less ((own_are s h t k less refl stands).spared a p has of_task) ∙ left_to s h a p k has (omega (arith, below)) (λ u within. (parts u within).0)
+    let of_task : list_any (is_write a p) (own_iteration_deeds s k q) ≡ false = sym (ap (λ (b : Bool). list_any (is_write a p) (step_deeds b s k q)) (same_number t)) ∙ own in
+    thread_cell s h k a p less ((own_are s h t k less refl stands).spared a p has out of_task) ∙ left_to s h a p k has out (omega (arith, below)) (λ u within. (parts u within).0)
 
-pub left : (s : Fission) → MayBeApart s → (unit a p : ℕ) → IsUnit (length s.sharing.entry.looped.body) unit → s.own unit ≡ true → unit_has arrays_in s.sharing.entry.looped unit a ≡ true
+pub left : (s : Fission) → MayBeApart s → (unit a p : ℕ) → IsUnit (length s.sharing.entry.looped.body) unit → s.own unit ≡ true → unit_has arrays_in s.sharing.entry.looped unit a ≡ true → among a s.folded ≡ false
     → ((t : ℕ) → t < s.sharing.tasks → own_writes s t a p ≡ false) → cell_at (store_behind s.sharing) a p ≡ cell_at (store_before s.sharing) a p
-left s h unit a p is own has none =
-    left_to s h a p s.sharing.count (record { unit = unit; is_unit = is; own = own; has = has }) (omega arith) (λ t within. sym (ap (list_any (is_write a p)) (given_to s t s.sharing.count)) ∙ none t within) ∙ ap (λ m. cell_at m a p) (thread_zero s.sharing)
+left s h unit a p is own has out none =
+    left_to s h a p s.sharing.count (record { unit = unit; is_unit = is; own = own; has = has }) out (omega arith) (λ t within. sym (ap (list_any (is_write a p)) (given_to s t s.sharing.count)) ∙ none t within) ∙ ap (λ m. cell_at m a p) (thread_zero s.sharing)
 
 -- scalars that an own unit names
 pub scalars_agree : (s : Fission) → MayBeApart s → (t unit x : ℕ) → t < s.sharing.tasks → x < length (store_before s.sharing).scalars → IsUnit (length s.sharing.entry.looped.body) unit → s.own unit ≡ true
@@ -165,7 +181,7 @@ next_step : (s : Fission) → MayBeApart s → (t k : ℕ) → k ≤ s.sharing.c
 next_step s h t k below =
     ap (λ (x : Outcome). then_do (record { store = (turns_to s t k).store; end = x }) (step (s.sharing.owner k == t) s k)) (stands_at s h t k below).is_done
 
-kept_to : (s : Fission) → MayBeApart s → (t a p k : ℕ) → k ≤ s.sharing.count → list_any (is_write a p) (deeds_to s t k) ≡ false → cell_at (turns_to s t k).store a p ≡ cell_at (store_begun s.sharing) a p
+kept_to : (s : Fission) → MayBeApart s → (t a p k : ℕ) → k ≤ s.sharing.count → list_any (is_write a p) (deeds_to s t k) ≡ false → cell_at (turns_to s t k).store a p ≡ cell_at (part_begun s) a p
 kept_to s h t a p zero below none = refl
 kept_to s h t a p (suc k) below none =
     let q = (turns_to s t k).store in
@@ -174,26 +190,31 @@ kept_to s h t a p (suc k) below none =
     let own : list_any (is_write a p) (step_deeds (s.sharing.owner k == t) s k q) ≡ false = sym (ap (λ (o : Outcome). list_any (is_write a p) (on_end q o (step_deeds (s.sharing.owner k == t) s k))) stands.is_done) ∙ parts.1 in
     ap (λ (r : Ran). cell_at r.store a p) (next_step s h t k (omega (arith, below))) ∙ step_cell s k a p (s.sharing.owner k == t) q own ∙ kept_to s h t a p k (omega (arith, below)) parts.0
 
-pub cells_keep : (s : Fission) → MayBeApart s → (t a p : ℕ) → own_writes s t a p ≡ false → cell_at (own_run s t).store a p ≡ cell_at (store_before s.sharing) a p
-cells_keep s h t a p none =
+cell_as_begun : (s : Fission) → MayBeApart s → (t a p : ℕ) → own_writes s t a p ≡ false → cell_at (own_run s t).store a p ≡ cell_at (part_begun s) a p
+cell_as_begun s h t a p none =
     ap (λ (r : Ran). cell_at r.store a p) (over_to s t s.sharing.count)
     ∙ kept_to s h t a p s.sharing.count (omega arith) (sym (ap (list_any (is_write a p)) (given_to s t s.sharing.count)) ∙ none)
-    ∙ ap (λ xs. slice_index_or (slice_index_or xs a []) p (pos 0)) (units_arrays (reductions_of s.sharing.entry.looped) (store_before s.sharing))
 
-step_keeps : (s : Fission) (t k : ℕ) (R : Memory → Memory → Type 0) (b : Bool) → (s.sharing.owner k == t) ≡ b → R (store_begun s.sharing) (turns_to s t k).store
-    → (s.sharing.owner k ≡ t → R (store_begun s.sharing) (own_iteration s k (turns_to s t k).store).store) → R (store_begun s.sharing) (step b s k (turns_to s t k).store).store
+pub cells_keep : (s : Fission) → MayBeApart s → (t a p : ℕ) → among a s.folded ≡ false → own_writes s t a p ≡ false → cell_at (own_run s t).store a p ≡ cell_at (store_before s.sharing) a p
+cells_keep s h t a p out none = cell_as_begun s h t a p none ∙ (part_begins s h).cells a p out
+
+pub copies_keep : (s : Fission) → MayBeApart s → (t a p : ℕ) (f : Fold) → among a s.folded ≡ true → fold_array_of s.sharing.entry.looped a ≡ Some f → p < length (cells_of (store_before s.sharing) a) → own_writes s t a p ≡ false → own_copy s a p t ≡ unit_of f
+copies_keep s h t a p f listed e within none = cell_as_begun s h t a p none ∙ (part_begins s h).copies f a p listed e within
+
+step_keeps : (s : Fission) (t k : ℕ) (R : Memory → Memory → Type 0) (b : Bool) → (s.sharing.owner k == t) ≡ b → R (part_begun s) (turns_to s t k).store
+    → (s.sharing.owner k ≡ t → R (part_begun s) (own_iteration s k (turns_to s t k).store).store) → R (part_begun s) (step b s k (turns_to s t k).store).store
 step_keeps s t k R true e before mine = mine (same_task (s.sharing.owner k) t e)
 step_keeps s t k R false e before mine = before
 
 -- what holds of each of a task's own iterations holds of all its turns
 turns_keep : (s : Fission) → MayBeApart s → (t : ℕ) (R : Memory → Memory → Type 0) → ((m : Memory) → R m m) → ((a b c : Memory) → R a b → R b c → R a c)
-    → ((k : ℕ) → k < s.sharing.count → s.sharing.owner k ≡ t → R (turns_to s t k).store (own_iteration s k (turns_to s t k).store).store) → (k : ℕ) → k ≤ s.sharing.count → R (store_begun s.sharing) (turns_to s t k).store
-turns_keep s h t R same chain step_of zero below = same (store_begun s.sharing)
+    → ((k : ℕ) → k < s.sharing.count → s.sharing.owner k ≡ t → R (turns_to s t k).store (own_iteration s k (turns_to s t k).store).store) → (k : ℕ) → k ≤ s.sharing.count → R (part_begun s) (turns_to s t k).store
+turns_keep s h t R same chain step_of zero below = same (part_begun s)
 turns_keep s h t R same chain step_of (suc k) below =
     let before = turns_keep s h t R same chain step_of k (omega (arith, below)) in
     let stands = stands_at s h t k (omega (arith, below)) in
-    subst (λ (r : Ran). R (store_begun s.sharing) r.store) (sym (next_step s h t k (omega (arith, below))))
-    (step_keeps s t k R (s.sharing.owner k == t) refl before (λ mine. chain (store_begun s.sharing) (turns_to s t k).store (own_iteration s k (turns_to s t k).store).store before (step_of k (omega (arith, below)) mine)))
+    subst (λ (r : Ran). R (part_begun s) r.store) (sym (next_step s h t k (omega (arith, below))))
+    (step_keeps s t k R (s.sharing.owner k == t) refl before (λ mine. chain (part_begun s) (turns_to s t k).store (own_iteration s k (turns_to s t k).store).store before (step_of k (omega (arith, below)) mine)))
 
 -- scalars that no own unit assigns
 
@@ -218,7 +239,7 @@ scalars_keep s h t x within none free =
     ∙ turns_keep s h t (λ m r. scalar_at r x ≡ scalar_at m x) (λ m. refl) (λ a b c e g. g ∙ e)
     (λ k below mine. let depth = (stands_at s h t k (omega (arith, below))).depth in
     iteration_scalar s k x (turns_to s t k).store (omega (arith, within, deep, index, depth)) (each_of (OwnDeed s k) (SparesScalar x) (spares_scalar s k x free) _ (own_deeds_are s h t k below mine))) s.sharing.count (omega arith)
-    ∙ other_begins s.sharing.entry.looped x (store_before s.sharing) none
+    ∙ (part_begins s h).scalars x ∙ other_begins s.sharing.entry.looped x (store_before s.sharing) none
 
 pub numbers_keep : (s : Fission) → MayBeApart s → (t : ℕ) → AreI64 (own_run s t).store
 numbers_keep s h t = subst (λ (r : Ran). AreI64 r.store) (sym (over_to s t s.sharing.count)) (stands_at s h t s.sharing.count (omega arith)).numbers
@@ -250,7 +271,7 @@ printed_keep s h t free =
     ap (λ (r : Ran). r.store.printed) (over_to s t s.sharing.count)
     ∙ turns_keep s h t (λ m r. r.printed ≡ m.printed) (λ m. refl) (λ a b c e g. g ∙ e)
     (λ k below mine. iteration_printed s k (turns_to s t k).store (each_of (OwnDeed s k) SparesPrinted (spares_printed s k free) _ (own_deeds_are s h t k below mine))) s.sharing.count (omega arith)
-    ∙ units_printed (reductions_of s.sharing.entry.looped) (store_before s.sharing)
+    ∙ (part_begins s h).printed
 
 prints_not : (s : Fission) → MayBeApart s → (unit : ℕ) (b : Bool) → unit_prints s.sharing.entry.looped unit ≡ b → s.sharing.tasks ≢ 1 → IsUnit (length s.sharing.entry.looped.body) unit → s.own unit ≡ true → b ≡ false
 prints_not s h unit false e several is own = refl

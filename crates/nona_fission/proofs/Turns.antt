@@ -1,16 +1,18 @@
 -- What one task has after its iterations among the first k, beside what one thread has after all of these.
 use Rattle.std.proofs.Common.{◌≡◌, ◌≢◌, ⊎_elim, ℕ, zero, suc, ◌<◌, ◌≤◌, ◌==◌, Bool, true, false, pos, List, [], ◌∷◌, ◌++◌, length, refl, sym, ap, ◌∙◌, subst, arith, if◌then◌else◌, append-nil, append_assoc}
-use Rattle.std.specs.Prelude.{None, slice_index_or}
+use Rattle.std.specs.Prelude.{Some, None, slice_index_or}
 use Rattle.std.specs.List.{AllByRecursion}
 use Rattle.std.proofs.lemmas.Bool.{cases_eq}
 use Rattle.std.proofs.lemmas.List.Elements.{All-from_recursion, recursion_from_All}
+use Rattle.nona_num.specs.declared.folds.Fold.{Fold}
 use Rattle.nona_num.specs.Folds.{unit_of}
 use Rattle.nona_tree.specs.declared.outcomes.Outcome.TheVariants as outcome
-use Rattle.nona_tree.specs.Beside.{on_done}
+use Rattle.nona_tree.specs.Beside.{on_done, on_end}
 use Rattle.nona_tree.specs.Deeds.{Deed, reads, sets, folds, loads, stores, joins, prints, SparesCell, SameSizes}
 use Rattle.nona_tree.specs.Memory.{Memory, scalar_at, cells_of, cell_at, declare}
 use Rattle.nona_tree.specs.Numbers.{AreI64}
-use Rattle.nona_tree.specs.Run.{Ran, done, then_do}
+use Rattle.nona_tree.specs.Run.{Ran, done, then_do, then_from}
+use Rattle.nona_tree.specs.declared.outcomes.Outcome.{Outcome}
 use Rattle.nona_tree.proofs.DeedLaws.{cell_stays_in_all}
 use Rattle.nona_tree.proofs.Depth.{was_done}
 use Rattle.nona_forms.specs.Affine.{among}
@@ -24,8 +26,9 @@ use Rattle.nona_parts.proofs.Alike.{Bound}
 use Rattle.nona_parts.proofs.Untied.{in_among}
 use Rattle.nona_parts.proofs.Begun.{unit_fits, units_arrays, units_printed, units_depth, units_numbers, other_begins}
 use Rattle.nona_parts.proofs.Tasks.{thread, thread_zero, from_low, as_done, begun_value, scalar_number, unit_join, each_of}
-use Rattle.nona_parts.proofs.Together.{from_more, ends_there, end_more, nothing_behind}
-use Rattle.nona_fission.specs.Fission.{Fission, MayBeApart, own_iteration, own_iteration_deeds, own_over, own_deeds}
+use Rattle.nona_fission.specs.FoldArrays.{fold_array_of}
+use Rattle.nona_fission.specs.Fission.{Fission, MayBeApart, own_iteration, own_iteration_deeds, own_over, own_deeds, part_begun}
+use Rattle.nona_fission.proofs.Copies.{cell_number, copies_scalars, copies_printed, copies_sizes, copies_numbers, copies_other, copies_unit}
 use Rattle.nona_fission.proofs.Ties.{IsFree, no_carried_scalar}
 use Rattle.nona_fission.proofs.Thread.{to_last, thread_next, thread_begins, thread_depth, before_begins, OwnHas, no_clash}
 use Rattle.nona_fission.proofs.Units.{OwnTouches, IsPrinting}
@@ -40,7 +43,7 @@ abbrev pub step_deeds : Bool → Fission → ℕ → Memory → List Deed
 step_deeds mine s k m = if mine then own_iteration_deeds s k m else []
 
 abbrev pub turns_to : Fission → ℕ → ℕ → Ran
-turns_to s t zero = done (store_begun s.sharing)
+turns_to s t zero = done (part_begun s)
 turns_to s t (suc k) = then_do (turns_to s t k) (step (s.sharing.owner k == t) s k)
 
 abbrev pub deeds_to : Fission → ℕ → ℕ → List Deed
@@ -48,6 +51,27 @@ deeds_to s t zero = []
 deeds_to s t (suc k) = deeds_to s t k ++ on_done (turns_to s t k) (step_deeds (s.sharing.owner k == t) s k)
 
 -- iterations one after another
+
+from_more : (m : Memory) (e : Outcome) (f g : Memory → Ran) → then_do (then_from m e f) g ≡ then_from m e (λ x. then_do (f x) g)
+from_more m outcome.Done f g = refl
+from_more m (outcome.Trap t) f g = refl
+from_more m (outcome.OutOfTurns at) f g = refl
+
+ends_there : (m : Memory) (e : Outcome) → then_from m e done ≡ record { store = m; end = e }
+ends_there m outcome.Done = refl
+ends_there m (outcome.Trap t) = refl
+ends_there m (outcome.OutOfTurns at) = refl
+
+end_more : (m : Memory) (e : Outcome) (f : Memory → Ran) (g : Memory → List Deed) (h : Memory → List Deed)
+    → on_end m e (λ x. g x ++ on_done (f x) h) ≡ on_end m e g ++ on_done (then_from m e f) h
+end_more m outcome.Done f g h = refl
+end_more m (outcome.Trap t) f g h = refl
+end_more m (outcome.OutOfTurns at) f g h = refl
+
+nothing_behind : (m : Memory) (e : Outcome) → on_end {B = Deed} m e (λ x. []) ≡ []
+nothing_behind m outcome.Done = refl
+nothing_behind m (outcome.Trap t) = refl
+nothing_behind m (outcome.OutOfTurns at) = refl
 
 over_append : (s : Fission) (xs ys : List ℕ) (m : Memory) → own_over s (xs ++ ys) m ≡ then_do (own_over s xs m) (own_over s ys)
 over_append s [] ys m = refl
@@ -81,20 +105,20 @@ step_over : (s : Fission) (k : ℕ) (b : Bool) (m : Memory) → own_over s (if b
 step_over s k true m = one_over s k m
 step_over s k false m = refl
 
-pub over_to : (s : Fission) (t k : ℕ) → own_over s (owned_below s.sharing.owner t k) (store_begun s.sharing) ≡ turns_to s t k
+pub over_to : (s : Fission) (t k : ℕ) → own_over s (owned_below s.sharing.owner t k) (part_begun s) ≡ turns_to s t k
 over_to s t zero = refl
 over_to s t (suc k) =
-    over_append s (owned_below s.sharing.owner t k) (if s.sharing.owner k == t then k ∷ [] else []) (store_begun s.sharing)
+    over_append s (owned_below s.sharing.owner t k) (if s.sharing.owner k == t then k ∷ [] else []) (part_begun s)
     ∙ (λ i. then_do (over_to s t k i) (λ r. step_over s k (s.sharing.owner k == t) r i))
 
 step_given : (s : Fission) (k : ℕ) (b : Bool) (m : Memory) → own_deeds s (if b then k ∷ [] else []) m ≡ step_deeds b s k m
 step_given s k true m = one_deeds s k m
 step_given s k false m = refl
 
-pub given_to : (s : Fission) (t k : ℕ) → own_deeds s (owned_below s.sharing.owner t k) (store_begun s.sharing) ≡ deeds_to s t k
+pub given_to : (s : Fission) (t k : ℕ) → own_deeds s (owned_below s.sharing.owner t k) (part_begun s) ≡ deeds_to s t k
 given_to s t zero = refl
 given_to s t (suc k) =
-    deeds_append s (owned_below s.sharing.owner t k) (if s.sharing.owner k == t then k ∷ [] else []) (store_begun s.sharing)
+    deeds_append s (owned_below s.sharing.owner t k) (if s.sharing.owner k == t then k ∷ [] else []) (part_begun s)
     ∙ (λ i. given_to s t k i ++ on_done (over_to s t k i) (λ r. step_given s k (s.sharing.owner k == t) r i))
 
 -- what stands of a task after its iterations among the first k
@@ -104,22 +128,47 @@ pub record Stands (s : Fission) (t k : ℕ) : Type 0 where
   pub depth : length (turns_to s t k).store.scalars ≡ s.sharing.entry.looped.index.id
   pub sizes : SameSizes s.sharing.entry.store (turns_to s t k).store
   pub scalars : t < s.sharing.tasks → (x : ℕ) → x < s.sharing.entry.looped.index.id → OwnHas s named_in x → reduction_of s.sharing.entry.looped x ≡ None → scalar_at (turns_to s t k).store x ≡ scalar_at (thread s.sharing k) x
-  pub cells : (a p : ℕ) → p < length (cells_of (thread s.sharing k) a) → OwnTouches s t a p → cell_at (turns_to s t k).store a p ≡ cell_at (thread s.sharing k) a p
+  pub cells : (a p : ℕ) → p < length (cells_of (thread s.sharing k) a) → among a s.folded ≡ false → OwnTouches s t a p → cell_at (turns_to s t k).store a p ≡ cell_at (thread s.sharing k) a p
   pub printed : t < s.sharing.tasks → IsPrinting s → (turns_to s t k).store.printed ≡ (thread s.sharing k).printed
+
+-- the store with which a task begins
+pub record Begins (s : Fission) : Type 0 where
+  pub numbers : AreI64 (part_begun s)
+  pub depth : length (part_begun s).scalars ≡ length (store_before s.sharing).scalars
+  pub sizes : SameSizes (store_before s.sharing) (part_begun s)
+  pub scalars : (x : ℕ) → scalar_at (part_begun s) x ≡ scalar_at (store_begun s.sharing) x
+  pub cells : (a p : ℕ) → among a s.folded ≡ false → cell_at (part_begun s) a p ≡ cell_at (store_before s.sharing) a p
+  pub copies : (f : Fold) (a p : ℕ) → among a s.folded ≡ true → fold_array_of s.sharing.entry.looped a ≡ Some f → p < length (cells_of (store_before s.sharing) a) → cell_at (part_begun s) a p ≡ unit_of f
+  pub printed : (part_begun s).printed ≡ (store_before s.sharing).printed
+
+pub part_begins : (s : Fission) → MayBeApart s → Begins s
+part_begins s h =
+    let l = s.sharing.entry.looped in
+    let m = store_before s.sharing in
+    let q = store_begun s.sharing in
+    record {
+      numbers = copies_numbers l s.folded q (units_numbers (reductions_of l) m (before_begins s h).kept.numbers);
+      depth = ap length (copies_scalars l s.folded q) ∙ units_depth (reductions_of l) m;
+      sizes = λ a. copies_sizes l s.folded q a ∙ ap (λ xs. length (slice_index_or xs a [])) (units_arrays (reductions_of l) m);
+      scalars = λ x. ap (λ xs. slice_index_or xs x (pos 0)) (copies_scalars l s.folded q);
+      cells = λ a p out. ap (λ xs. slice_index_or xs p (pos 0)) (copies_other l s.folded q a out) ∙ ap (λ xs. slice_index_or (slice_index_or xs a []) p (pos 0)) (units_arrays (reductions_of l) m);
+      copies = λ f a p listed e within. let count = ap (λ xs. length (slice_index_or xs a [])) (units_arrays (reductions_of l) m) in copies_unit l f s.folded q a p listed e (omega (arith, within, count));
+      printed = copies_printed l s.folded q ∙ units_printed (reductions_of l) m;
+    }
 
 stands_first : (s : Fission) → MayBeApart s → (t : ℕ) → Stands s t 0
 stands_first s h t =
     let l = s.sharing.entry.looped in
-    let m = store_before s.sharing in
     let begins = before_begins s h in
+    let first = part_begins s h in
     record {
       is_done = refl;
-      numbers = units_numbers (reductions_of l) m begins.kept.numbers;
-      depth = units_depth (reductions_of l) m ∙ begins.depth ∙ sym h.entered.scoped.0;
-      sizes = λ a. ap (λ xs. length (slice_index_or xs a [])) (units_arrays (reductions_of l) m) ∙ begins.kept.sizes a;
-      scalars = λ known x out has none. other_begins l x m none ∙ ap (λ z. scalar_at z x) (sym (thread_zero s.sharing));
-      cells = λ a p below touch. ap (λ xs. slice_index_or (slice_index_or xs a []) p (pos 0)) (units_arrays (reductions_of l) m) ∙ ap (λ z. cell_at z a p) (sym (thread_zero s.sharing));
-      printed = λ known alone. units_printed (reductions_of l) m ∙ ap (λ (z : Memory). z.printed) (sym (thread_zero s.sharing));
+      numbers = first.numbers;
+      depth = first.depth ∙ begins.depth ∙ sym h.entered.scoped.0;
+      sizes = λ a. first.sizes a ∙ begins.kept.sizes a;
+      scalars = λ known x out has none. first.scalars x ∙ other_begins l x (store_before s.sharing) none ∙ ap (λ z. scalar_at z x) (sym (thread_zero s.sharing));
+      cells = λ a p below out touch. first.cells a p out ∙ ap (λ z. cell_at z a p) (sym (thread_zero s.sharing));
+      printed = λ known alone. first.printed ∙ ap (λ (z : Memory). z.printed) (sym (thread_zero s.sharing));
     }
 
 -- an iteration of its own
@@ -147,7 +196,10 @@ start_bound s h t k below mine stands =
         outer = λ out has none. stands.scalars (subst (λ z. z < s.sharing.tasks) mine (h.owned k below)) x out has none;
         whole = λ f e all. record { by = unit_of f; fits = unit_fits f; first = unit_join f (scalar_at m x) (scalar_number m x first.kept.numbers); second = unit_join f (scalar_at q x) (scalar_number q x stands.numbers) };
       };
-      cell = stands.cells;
+      cell = λ a p within. record {
+        plain = stands.cells a p within;
+        whole = λ f e all. record { by = unit_of f; fits = unit_fits f; first = unit_join f (cell_at m a p) (cell_number m a p first.kept.numbers); second = unit_join f (cell_at q a p) (cell_number q a p stands.numbers) };
+      };
       printed = stands.printed (subst (λ z. z < s.sharing.tasks) mine (h.owned k below));
     }
 
@@ -189,7 +241,7 @@ stands_own s h t k below mine stands =
       sizes = λ a. ap (λ (r : Ran). length (cells_of r.store a)) next ∙ are.bound.sizes a ∙ ap (λ z. length (cells_of z a)) to_m ∙ later.kept.sizes a;
       scalars = λ known x out has none. ap (λ (r : Ran). scalar_at r.store x) next
           ∙ (are.bound.scalar x (subst (λ (z : Memory). x < length z.scalars) (sym to_m) (omega (arith, out, depth)))).outer out has none ∙ ap (λ z. scalar_at z x) to_m;
-      cells = λ a p within touch. ap (λ (r : Ran). cell_at r.store a p) next ∙ are.bound.cell a p (subst (λ z. p < length (cells_of z a)) (sym to_m) within) touch ∙ ap (λ z. cell_at z a p) to_m;
+      cells = λ a p within out touch. ap (λ (r : Ran). cell_at r.store a p) next ∙ (are.bound.cell a p (subst (λ z. p < length (cells_of z a)) (sym to_m) within)).plain out touch ∙ ap (λ z. cell_at z a p) to_m;
       printed = λ known alone. ap (λ (r : Ran). r.store.printed) next ∙ are.bound.printed alone ∙ ap (λ (z : Memory). z.printed) to_m;
     }
 
@@ -200,16 +252,16 @@ free_or_alone : (s : Fission) → MayBeApart s → (t k : ℕ) (A : Type 0) → 
 free_or_alone s h t k A below apart known go =
     ⊎_elim go (λ (alone : s.sharing.tasks ≡ 1). let owned = h.owned k below in absurd (apart (omega (arith, owned, known, alone)))) h.free
 
-untouched : (s : Fission) → MayBeApart s → IsFree s → (t k a p : ℕ) → k < s.sharing.count → s.sharing.owner k ≢ t → OwnTouches s t a p → (d : Deed) → IsOfAccess s.sharing.entry.looped s.sharing.entry.store (index_of s.sharing.entry s.sharing.first k) d → SparesCell a p d
-untouched s h free t k a p below apart touch (reads x) of = tt
-untouched s h free t k a p below apart touch (sets x) of = tt
-untouched s h free t k a p below apart touch (folds f x) of = tt
-untouched s h free t k a p below apart touch (loads b c) of = tt
-untouched s h free t k a p below apart touch (stores b c) of = λ at_a at_p.
-    no_clash s h free k touch.turn a p touch.write touch.array below touch.below (λ same. apart (ap s.sharing.owner same ∙ touch.mine)) (subst (λ z. IsTouched s.sharing.entry.looped s.sharing.entry.store (index_of s.sharing.entry s.sharing.first k) true z p) at_a (subst (IsTouched s.sharing.entry.looped s.sharing.entry.store (index_of s.sharing.entry s.sharing.first k) true b) at_p of)) touch.touched
-untouched s h free t k a p below apart touch (joins f b c) of = λ at_a at_p.
-    no_clash s h free k touch.turn a p touch.write touch.array below touch.below (λ same. apart (ap s.sharing.owner same ∙ touch.mine)) (subst (λ z. IsTouched s.sharing.entry.looped s.sharing.entry.store (index_of s.sharing.entry s.sharing.first k) true z p) at_a (subst (IsTouched s.sharing.entry.looped s.sharing.entry.store (index_of s.sharing.entry s.sharing.first k) true b) at_p of)) touch.touched
-untouched s h free t k a p below apart touch prints of = tt
+untouched : (s : Fission) → MayBeApart s → IsFree s → (t k a p : ℕ) → k < s.sharing.count → s.sharing.owner k ≢ t → among a s.folded ≡ false → OwnTouches s t a p → (d : Deed) → IsOfAccess s.sharing.entry.looped s.sharing.entry.store (index_of s.sharing.entry s.sharing.first k) d → SparesCell a p d
+untouched s h free t k a p below apart out touch (reads x) of = tt
+untouched s h free t k a p below apart out touch (sets x) of = tt
+untouched s h free t k a p below apart out touch (folds f x) of = tt
+untouched s h free t k a p below apart out touch (loads b c) of = tt
+untouched s h free t k a p below apart out touch (stores b c) of = λ at_a at_p.
+    no_clash s h free k touch.turn a p touch.write touch.array out below touch.below (λ same. apart (ap s.sharing.owner same ∙ touch.mine)) (subst (λ z. IsTouched s.sharing.entry.looped s.sharing.entry.store (index_of s.sharing.entry s.sharing.first k) true z p) at_a (subst (IsTouched s.sharing.entry.looped s.sharing.entry.store (index_of s.sharing.entry s.sharing.first k) true b) at_p of)) touch.touched
+untouched s h free t k a p below apart out touch (joins f b c) of = λ at_a at_p.
+    no_clash s h free k touch.turn a p touch.write touch.array out below touch.below (λ same. apart (ap s.sharing.owner same ∙ touch.mine)) (subst (λ z. IsTouched s.sharing.entry.looped s.sharing.entry.store (index_of s.sharing.entry s.sharing.first k) true z p) at_a (subst (IsTouched s.sharing.entry.looped s.sharing.entry.store (index_of s.sharing.entry s.sharing.first k) true b) at_p of)) touch.touched
+untouched s h free t k a p below apart out touch prints of = tt
 
 pub thread_cell : (s : Fission) → MayBeApart s → (k a p : ℕ) → k < s.sharing.count → AllByRecursion (SparesCell a p) (iteration_deeds s.sharing.entry s.sharing.first k (thread s.sharing k)) → cell_at (thread s.sharing (suc k)) a p ≡ cell_at (thread s.sharing k) a p
 thread_cell s h k a p below each =
@@ -241,11 +293,11 @@ stands_other s h t k below apart stands =
           let unset = own_unassigned s free x (among x (assigned_all l.body)) refl out has none in
           ap (λ (r : Ran). scalar_at r.store x) next ∙ stands.scalars known x out has none
           ∙ unassigned_value s h k x (omega (arith, below)) out unset ∙ sym (unassigned_value s h (suc k) x (omega (arith, below)) out unset));
-      cells = λ a p within touch. free_or_alone s h t k (cell_at (turns_to s t (suc k)).store a p ≡ cell_at (thread s.sharing (suc k)) a p) below apart (subst (λ z. z < s.sharing.tasks) touch.mine (h.owned touch.turn touch.below)) (λ free.
+      cells = λ a p within out touch. free_or_alone s h t k (cell_at (turns_to s t (suc k)).store a p ≡ cell_at (thread s.sharing (suc k)) a p) below apart (subst (λ z. z < s.sharing.tasks) touch.mine (h.owned touch.turn touch.below)) (λ free.
           let here = before.kept.sizes a in
           let there = later.kept.sizes a in
-          ap (λ (r : Ran). cell_at r.store a p) next ∙ stands.cells a p (omega (arith, within, here, there)) touch
-          ∙ sym (thread_cell s h k a p below (each_of (IsOfAccess l s.sharing.entry.store (index_of s.sharing.entry s.sharing.first k)) (SparesCell a p) (untouched s h free t k a p below apart touch) _ (thread_access s h k below))));
+          ap (λ (r : Ran). cell_at r.store a p) next ∙ stands.cells a p (omega (arith, within, here, there)) out touch
+          ∙ sym (thread_cell s h k a p below (each_of (IsOfAccess l s.sharing.entry.store (index_of s.sharing.entry s.sharing.first k)) (SparesCell a p) (untouched s h free t k a p below apart out touch) _ (thread_access s h k below))));
       printed = λ known alone. let owned = h.owned k below in let one = alone.0 in absurd (apart (omega (arith, owned, known, one)));
     }
 

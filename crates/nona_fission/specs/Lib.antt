@@ -1,1 +1,2 @@
+pub mod FoldArrays
 pub mod Fission

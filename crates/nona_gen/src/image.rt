@@ -46,7 +46,7 @@ fn region_of(alloc: Global, l: &Loop, plans: &Plans<'_>) -> Result<RegionCode, A
     let plan = plans.plan(alloc, l)?;
     let guard = Guard::of(alloc, l)?;
     let reductions = reductions(alloc, l)?;
-    let units = Units::of(&l.body, codes);
+    let units = Units::of(&l.body, codes)?;
     Ok(RegionCode::of(l, plan, guard, reductions, units))
 }
 

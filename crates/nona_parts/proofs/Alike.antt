@@ -19,10 +19,10 @@ use Rattle.nona_tree.specs.declared.trees.Access.{Access}
 use Rattle.nona_tree.specs.declared.trees.Expr.{Expr, Number}
 use Rattle.nona_tree.specs.declared.trees.Stmt.{Stmt, Let, Set, Fold as FoldInto, Put, FoldPut, If', While', For', Print, Row_of-Stmt, end_of-Stmt, more_of-Stmt}
 use Rattle.nona_tree.specs.Beside.{on_ok, on_end, on_done, while_gives, first_give}
-use Rattle.nona_tree.specs.Deeds.{Deed, reads, sets, folds, loads, stores, joins, prints, value_deeds, value_then, cell_then, deeds, deeds_row, deeds_all, SeesSame, SameSizes}
+use Rattle.nona_tree.specs.Deeds.{Deed, reads, sets, folds, loads, stores, joins, prints, value_deeds, value_then, cell_then, deeds, deeds_row, SeesSame, SameSizes}
 use Rattle.nona_tree.specs.Memory.{Memory, scalar_at, cells_of, cell_at, declare, assign, put_cell, print, cut_to}
-use Rattle.nona_tree.specs.Numbers.{IsI64, AreI64, IsI64Expr, IsI64Stmt, IsI64Row, AreI64Stmts}
-use Rattle.nona_tree.specs.Run.{Ran, done, starved, with_value, then_from, then_do, block, turn, while_turns, first_turns, for_turns, run, run_row, run_all}
+use Rattle.nona_tree.specs.Numbers.{IsI64, AreI64, IsI64Expr, IsI64Stmt, IsI64Row}
+use Rattle.nona_tree.specs.Run.{Ran, done, starved, with_value, then_from, then_do, block, turn, while_turns, first_turns, for_turns, run, run_row}
 use Rattle.nona_tree.specs.Value.{Answer, is_zero, then_use, place_of, value_of, cell_of}
 use Rattle.nona_tree.proofs.DeedLaws.{each_of_both}
 use Rattle.nona_tree.proofs.I64.{value_fits, run_fits}
@@ -439,9 +439,3 @@ mutual
   row_alike b has (more_of-Stmt s rest) n t m k h each =
       let parts = each_of_both (Granted b) (deeds s n m) _ each in
       alike_then b (run s n m) (run s n k) (deeds s n m) (deeds s n k) (run_row rest n) (run_row rest n) (deeds_row rest n) (deeds_row rest n) (run_alike b has s n t.0 m k h parts.0) (row_alike b has rest n t.1) parts.1
-
-pub all_alike : (b : Bond) → HasInner b → (ss : List Stmt) (n : ℕ) → AreI64Stmts ss → IsAlikeRow b (run_all ss n) (deeds_all ss n)
-all_alike b has [] n t m k h each = record { ends = refl; bound = h; same = refl }
-all_alike b has (s ∷ rest) n t m k h each =
-    let parts = each_of_both (Granted b) (deeds s n m) _ each in
-    alike_then b (run s n m) (run s n k) (deeds s n m) (deeds s n k) (run_all rest n) (run_all rest n) (deeds_all rest n) (deeds_all rest n) (run_alike b has s n t.0 m k h parts.0) (all_alike b has rest n t.1) parts.1

@@ -63,13 +63,6 @@ last_none : (n : ℕ) (o : Option Fold) (m : Memory) → o ≡ None → scalar_a
 last_none n None m e = refl
 last_none n (Some g) m e = cc
 
-past_units : (l : Loop) (n x : ℕ) (m : Memory) → n ≤ x → scalar_at (with_units (reductions_below l n) m) x ≡ scalar_at m x
-past_units l zero x m h = refl
-past_units l (suc n) x m h =
-    ap (λ k. scalar_at k x) (units_append (reductions_below l n) (with_fold n (reduction_of l n)) m)
-    ∙ last_other n x (reduction_of l n) (with_units (reductions_below l n) m) (omega (arith, h))
-    ∙ past_units l n x m (omega (arith, h))
-
 -- a reduction has its unit
 units_below : (l : Loop) (f : Fold) (n x : ℕ) (m : Memory) → x < n → n ≤ length m.scalars → reduction_of l x ≡ Some f → scalar_at (with_units (reductions_below l n) m) x ≡ unit_of f
 units_below l f zero x m below deep e = absurd (omega (arith, below))

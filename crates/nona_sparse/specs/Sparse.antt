@@ -3,19 +3,28 @@ use Rattle.std.specs.Prelude.{ℕ, suc, ◌/◌, ◌%◌, ◌==◌, nat_lt, if�
 use Rattle.std.specs.declared.option.Option.{Option}
 use Rattle.std.specs.Option.{unwrap_or}
 use Rattle.std.specs.Ordering.{int_eq}
+use Rattle.nona_sparse.specs.declared.block.TheConstants.{BLOCK}
 use Rattle.nona_sparse.specs.declared.page.TheConstants.{PAGE}
 
 -- the value at a place of a page, where one is
 abbrev pub at_page : List (Option ℤ) → ℕ → Option ℤ
 at_page page place = slice_index_or page place None
 
+-- the value at a place of parts that have so many places each, where one is
+abbrev pub at_parts : ℕ → List (List (Option ℤ)) → ℕ → Option ℤ
+at_parts size parts place = at_page (slice_index_or parts (place / size) []) (place % size)
+
 -- the value at a place of the pages, where one is
 abbrev pub at : List (List (Option ℤ)) → ℕ → Option ℤ
-at pages place = at_page (slice_index_or pages (place / PAGE) []) (place % PAGE)
+at pages place = at_parts PAGE pages place
 
 -- the value that the page with this index has at a place of the array, where it has one
 abbrev pub of_page : ℕ → List (Option ℤ) → ℕ → Option ℤ
 of_page index page place = if place / PAGE == index then at_page page (place % PAGE) else None
+
+-- the value that the block with this index has at a place of the array, where it has one
+abbrev pub of_block : ℕ → List (Option ℤ) → ℕ → Option ℤ
+of_block index block place = if place / BLOCK == index then at_page block (place % BLOCK) else None
 
 -- one place has this value, or none, and the others have none
 abbrev pub only_at : ℕ → Option ℤ → ℕ → Option ℤ

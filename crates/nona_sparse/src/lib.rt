@@ -4,6 +4,7 @@
 //! the cells of an array under the values (`Sparse`).
 #![tactic(auto)]
 
+mod block;
 mod page;
 mod sparse;
 

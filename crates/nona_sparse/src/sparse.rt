@@ -10,8 +10,9 @@ use std::marker::Model;
 pub const PLACES: usize = PAGES * PAGE;
 
 /// Values of 64 bits that are written over the cells of an array and aren't in it yet. Contracts see its pages: for each place the
-/// value that was last put there, if any was (`at`). It takes memory for the pages in which values were put, each up to its last
-/// such place, and a few words for each page before them.
+/// value that was last put there, if any was (`at`). It takes memory for the values that it has, with room for some more, and a few
+/// words for each page of 4,096 places up to the last one that has values, and for each block of 64 places of such a page up to the
+/// last one that has values.
 #[derive(Drop)]
 pub struct SparseArray {
     pages: Vec<Page>,
@@ -83,9 +84,9 @@ impl SparseArray {
         self.pages[index].get(place % PAGE)
     }
 
-    /// Puts a value at this place, in place of one that was there. Takes constant time, but where the place's page has to be made
-    /// or made longer: then it may take up to 4,096 empty pages and 1,024 places, which are there from then on. Where memory runs
-    /// out, each place has what it had.
+    /// Puts a value at this place, in place of one that was there. Takes constant time, but where the place's page or
+    /// block has to be made: then it may take up to 1,024 pages and 64 blocks without values, which are there from then on. Where memory runs out, each place has what
+    /// it had.
     pub fn put(&mut self, place: usize, value: i64) -> Result<(), AllocError>
         requires { place < PLACES }
         ensures ok { OnOk result (at self.new ≡ with_at place value (at self.old)) }
@@ -98,8 +99,8 @@ impl SparseArray {
         page.put(place % PAGE, value)
     }
 
-    /// Forgets each value that the array's cell at its place has already. Takes no memory, and a time in proportion to the places
-    /// of its pages.
+    /// Forgets each value that the array's cell at its place has already. Takes no memory, and a time in proportion to its pages and
+    /// its values.
     pub fn keep_changes(&mut self, cells: &[i64])
         ensures { at self.new ≡ changes cells.now (at self.old) }
     {
@@ -107,7 +108,7 @@ impl SparseArray {
     }
 
     /// Gives each of an array's cells the value at its place, where one is. Values behind the array's end are left out, and cells of
-    /// 64 bits stay such. Takes no memory, and a time in proportion to the places of its pages.
+    /// 64 bits stay such. Takes no memory, and a time in proportion to its pages and its values.
     pub fn write_to(&self, cells: &mut [i64])
         ensures cells { cells.new ≡ cells_under (at self.now) 0 cells.old }
         ensures numbers { All (FitsSigned w64) cells.old → All (FitsSigned w64) cells.new }

@@ -86,8 +86,8 @@ impl Overlay {
         self.arrays[array as usize].get(index)
     }
 
-    /// Forgets each value that the store's cell at its place has already. Takes no memory, and a time in proportion to the places of
-    /// its pages.
+    /// Forgets each value that the store's cell at its place has already. Takes no memory, and a time in proportion to its pages and
+    /// the values in them.
     pub fn keep_changes(&mut self, store: &Store)
         ensures { over_of self.new ≡ changes_of store.now (over_of self.old) }
     {

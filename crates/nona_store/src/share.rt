@@ -84,7 +84,7 @@ impl Share {
     }
 
     /// Declares a scalar behind the others. Where memory runs out the share is unchanged.
-    fn push_scalar(&mut self, value: i64) -> Result<(), AllocError>
+    pub fn push_scalar(&mut self, value: i64) -> Result<(), AllocError>
         ensures ok { OnOk result (self.new ≡ record self.old { scalars = self.old.scalars ++ value ∷ [] }) }
         ensures err { OnErr result (self.new ≡ self.old) }
     {
@@ -92,8 +92,8 @@ impl Share {
         Ok(())
     }
 
-    /// Drops the last scalars, of which there are at least `count`.
-    fn cut_scalars(&mut self, count: usize)
+    /// Drops the last scalars, of which there are at least `count`. Takes constant time.
+    pub fn cut_scalars(&mut self, count: usize)
         requires { count ≤ length self.old.scalars }
         ensures { self.new ≡ record self.old { scalars = take (length self.old.scalars - count) self.old.scalars } }
     {
@@ -128,8 +128,8 @@ impl Share {
         self.overlay.put(array, index, value)
     }
 
-    /// Forgets each written value that the store's cell has already. Takes no memory, and a time in proportion to the places of the
-    /// pages in which values were written.
+    /// Forgets each written value that the store's cell has already. Takes no memory, and a time in proportion to the overlay's pages
+    /// and the values in them.
     pub fn keep_changes(&mut self, store: &Store)
         ensures scalars { self.new.scalars ≡ self.old.scalars }
         ensures printed { self.new.printed ≡ self.old.printed }

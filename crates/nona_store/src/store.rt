@@ -161,6 +161,14 @@ impl Store {
         self.scalars[id as usize] = value;
     }
 
+    /// Gives the scalar at this position, which is there, a value. Nothing else changes.
+    pub fn set_scalar_at(&mut self, position: usize, value: i64)
+        requires { position < length self.old.scalars }
+        ensures { self.new ≡ assign position value self.old }
+    {
+        self.scalars[position] = value;
+    }
+
     /// Declares a scalar behind the others. Where memory runs out the store is unchanged.
     pub fn push_scalar(&mut self, value: i64) -> Result<(), AllocError>
         ensures ok { OnOk result (self.new ≡ declare value self.old) }
@@ -232,7 +240,7 @@ impl Store {
     }
 
     /// Gives each cell that an overlay has its value; those that the store doesn't have are left out. Nothing else changes. Takes no
-    /// memory, and a time in proportion to the places of the overlay's pages.
+    /// memory, and a time in proportion to the overlay's pages and the values in them.
     pub fn apply(&mut self, overlay: &Overlay)
         ensures { self.new ≡ under (over_of overlay.now) self.old }
     {

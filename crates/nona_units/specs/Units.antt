@@ -1,10 +1,10 @@
 -- Code of statements, one after another.
-use Rattle.std.specs.Prelude.{◌≡◌, ◌≤◌, ℕ, List, [], ◌∷◌, length, drop, Some, slice_get}
+use Rattle.std.specs.Prelude.{◌≡◌, ◌≤◌, ℕ, Bool, false, List, [], ◌∷◌, length, map, drop, Some, slice_get, slice_index_or}
 use Rattle.nona_tree.specs.declared.outcomes.Outcome.{Outcome}
 use Rattle.nona_tree.specs.declared.trees.Stmt.{Stmt}
 use Rattle.nona_tree.specs.Memory.{Memory}
 use Rattle.nona_tree.specs.Run.{run, Reaches}
-use Rattle.nona_tree.specs.Scope.{IsScoped}
+use Rattle.nona_tree.specs.Scope.{IsScoped, is_let}
 use Rattle.nona_code.specs.SoundView.{SoundView}
 use Rattle.nona_code.specs.Stands.{StandsFor}
 use Rattle.nona_units.specs.UnitsView.{UnitsView}
@@ -29,6 +29,10 @@ IsFirstScoped (s ∷ rest) m = IsScoped s (length m.scalars) (length m.arrays)
 abbrev pub FirstReaches : List Stmt → ℕ → Memory → Memory → Outcome → Type 0
 FirstReaches [] n m r end = Unit {0}
 FirstReaches (s ∷ rest) n m r end = Reaches (run s n m) r end
+
+-- whether the statement with this number declares a scalar that stays behind it
+abbrev pub is_let_at : List Stmt → ℕ → Bool
+is_let_at body at = slice_index_or (map is_let body) at false
 
 -- the code of the statement with this number stands for it, and takes no more room than is said
 pub record IsUnitAt (code : SoundView) (units : UnitsView) (at : ℕ) : Type 0 where

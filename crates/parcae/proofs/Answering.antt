@@ -43,5 +43,5 @@ starved_answer (Some (seq task)) outside sent told h =
     rw h.0 (ends_starved (DueOfCommand outside (Some (seq task)) []) sent (starves refl refl) h.1)
 starved_answer (Some (check file)) outside sent told h =
     rw h.0 (ends_starved (DueOfCommand outside (Some (check file)) []) sent (starves refl refl) h.1)
-starved_answer (Some (replay task script log)) outside sent told h =
-    rw h.0 (ends_starved (DueOfCommand outside (Some (replay task script log)) []) sent (starves refl refl) h.1)
+starved_answer (Some (replay task)) outside sent told h =
+    rw h.0 (ends_starved (DueOfCommand outside (Some (replay task)) []) sent (starves refl refl) h.1)

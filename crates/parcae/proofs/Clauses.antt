@@ -11,13 +11,12 @@ use Rattle.morta_task.specs.Entries.{EntryView}
 use Rattle.morta_task.specs.LogView.{LogView}
 use Rattle.weave.specs.declared.script.Command.{Command as Order}
 use Rattle.weave.specs.Replay.{IsScriptReplay}
-use Rattle.parcae.specs.declared.replays.TheConstants.{CAPACITY}
 use Rattle.morta_text.specs.Texts.{log_text}
 use Rattle.parcae.specs.declared.refusal.Refusal.TheVariants as refusal
 use Rattle.parcae.specs.declared.refusal.Source.{Source}
 use Rattle.parcae.specs.declared.refusal.Source.TheVariants as source
 use Rattle.parcae.specs.declared.status.Status.TheVariants as status
-use Rattle.parcae.specs.Words.{Task, Command, seq, check, replay}
+use Rattle.parcae.specs.Words.{Task, ReplayTask, Command, seq, check, replay}
 use Rattle.fate_io.specs.Reading.{Held, Looked}
 use Rattle.fate_io.specs.Outside.{outside_of}
 use Rattle.parcae.specs.Codes.{code_of}
@@ -229,7 +228,7 @@ full_by (Some (check file)) looked sent told added printed later e sends (by_run
     let w = check_whole tree _ told printed later d refl in
     let is : code_of told.status ≡ 0 = ap (λ (t : Told). code_of t.status) w.0 in
     absurd (omega (arith, e, is))
-full_by (Some (replay task script log)) looked sent told added printed later e sends (by_run (tree, numbers, commands, g, h, k, d)) =
+full_by (Some (replay task)) looked sent told added printed later e sends (by_run (tree, numbers, commands, g, h, k, d)) =
     full_drive _ _ _ _ _ _ sent told printed later e sends (drive_whole _ _ _ _ _ _ _ told printed later d refl)
 
 pub tells_full : OfEachCall TellsFullLog
@@ -281,13 +280,14 @@ check_by file looked sent told added printed later tells le sends (by_run (tree,
     }
 
 -- the same of a run in intervals
-drive_by : (task : Task) (script : List ℕ) (log : Bool) (looked : Looked) (sent : Sent) (told : Told) (printed later : List ℕ) (tree : Program) (numbers : List ℤ) (commands : List Order)
+drive_by : (task : ReplayTask) (looked : Looked) (sent : Sent) (told : Told) (printed later : List ℕ) (tree : Program) (numbers : List ℤ) (commands : List Order)
     → code_of told.status ≤ 2 → Appends sent.before sent.after (printed ++ later)
-    → HoldsProgram looked task.file tree → HoldsInput looked task.input numbers → HoldsScript looked script commands
-    → DriveWhole tree (entries_in (planned_image tree) tree numbers task.turns) (meaning_of tree numbers task.turns) (IsScriptReplay CAPACITY commands (entries_in (planned_image tree) tree numbers task.turns)) task.memory log told printed later
-    → HasReplayed task script log looked sent told
-drive_by task script log looked sent told printed later tree numbers commands le sends program input orders (is_ran l s ends er ep el) =
-    let ran = meaning_of tree numbers task.turns in
+    → HoldsProgram looked task.run.file tree → HoldsInput looked task.run.input numbers → HoldsScript looked task.script commands
+    → DriveWhole tree (entries_in (planned_image tree) tree numbers task.run.turns) (meaning_of tree numbers task.run.turns)
+    (IsScriptReplay task.links commands (entries_in (planned_image tree) tree numbers task.run.turns)) task.run.memory task.log told printed later
+    → HasReplayed task looked sent told
+drive_by task looked sent told printed later tree numbers commands le sends program input orders (is_ran l s ends er ep el) =
+    let ran = meaning_of tree numbers task.run.turns in
     let el2 : l ≡ told.log = ap (λ (t : Told). t.log) (sym er) in record {
       tree = tree;
       numbers = numbers;
@@ -295,25 +295,25 @@ drive_by task script log looked sent told printed later tree numbers commands le
       program = program;
       input = input;
       orders = orders;
-      replay = subst (λ (x : LogView). IsWholeReplay commands (entries_in (planned_image tree) tree numbers task.turns) x) el2
+      replay = subst (λ (x : LogView). IsWholeReplay task.links commands (entries_in (planned_image tree) tree numbers task.run.turns) x) el2
           (record { whole = record { legal = s.legal; ended = ends }; replayed = s.replayed });
       report = er ∙ ap (finished ran) el2;
-      text = subst (λ (x : LogView). Appends sent.before sent.after (run_text tree ran task.memory (where_asked log (log_text x)))) el2
+      text = subst (λ (x : LogView). Appends sent.before sent.after (run_text tree ran task.run.memory (where_asked task.log (log_text x)))) el2
           (subst (λ (t : List ℕ). Appends sent.before sent.after t) (rw (ep, el) refl) sends);
     }
-drive_by task script log looked sent told printed later tree numbers commands le sends program input orders (is_full l m few er ep el) =
+drive_by task looked sent told printed later tree numbers commands le sends program input orders (is_full l m few er ep el) =
     let is : code_of told.status ≡ 18 = ap (λ (t : Told). code_of t.status) er in
     absurd (omega (arith, is, le))
 
-replay_by : (task : Task) (script : List ℕ) (log : Bool) (looked : Looked) (sent : Sent) (told : Told) (added : List (List ℕ)) (printed later : List ℕ)
+replay_by : (task : ReplayTask) (looked : Looked) (sent : Sent) (told : Told) (added : List (List ℕ)) (printed later : List ℕ)
     → TellsFiles looked → code_of told.status ≤ 2 → Appends sent.before sent.after (printed ++ later)
-    → WholeBy (Some (replay task script log)) looked added told printed later → HasReplayed task script log looked sent told
-replay_by task script log looked sent told added printed later tells le sends (by_words none w) = absurd (omega (arith, le, words_code told printed later w))
-replay_by task script log looked sent told added printed later tells le sends (by_file s file r names bad w) =
+    → WholeBy (Some (replay task)) looked added told printed later → HasReplayed task looked sent told
+replay_by task looked sent told added printed later tells le sends (by_words none w) = absurd (omega (arith, le, words_code told printed later w))
+replay_by task looked sent told added printed later tells le sends (by_file s file r names bad w) =
     absurd (omega (arith, le, refused_code r told printed later w, (bad_code s (outside_of looked) file added r bad).0))
-replay_by task script log looked sent told added printed later tells le sends (by_run (tree, numbers, commands, g, h, k, d)) =
-    drive_by task script log looked sent told printed later tree numbers commands le sends
-    (holds_program looked task.file tree tells g) (holds_input looked task.input numbers tells h) (holds_script looked script commands tells k)
+replay_by task looked sent told added printed later tells le sends (by_run (tree, numbers, commands, g, h, k, d)) =
+    drive_by task looked sent told printed later tree numbers commands le sends
+    (holds_program looked task.run.file tree tells g) (holds_input looked task.run.input numbers tells h) (holds_script looked task.script commands tells k)
     (drive_whole _ _ _ _ _ _ _ told printed later d refl)
 
 -- words that are no command have no status of a run
@@ -330,6 +330,6 @@ tells_meaning (Some (seq task)) looked sent told answers = λ tells le.
 tells_meaning (Some (check file)) looked sent told answers = λ tells le.
     let a = answered (Some (check file)) looked sent told (λ f. omega (arith, le, f)) (λ f. omega (arith, le, f)) answers in
     check_by file looked sent told a.added a.printed a.later tells le a.sends a.by
-tells_meaning (Some (replay task script log)) looked sent told answers = λ tells le.
-    let a = answered (Some (replay task script log)) looked sent told (λ f. omega (arith, le, f)) (λ f. omega (arith, le, f)) answers in
-    replay_by task script log looked sent told a.added a.printed a.later tells le a.sends a.by
+tells_meaning (Some (replay task)) looked sent told answers = λ tells le.
+    let a = answered (Some (replay task)) looked sent told (λ f. omega (arith, le, f)) (λ f. omega (arith, le, f)) answers in
+    replay_by task looked sent told a.added a.printed a.later tells le a.sends a.by

@@ -1,5 +1,5 @@
 -- A command whose files are held ends with what is due of its run where nothing outside fails.
-use Rattle.std.proofs.Common.{◌≡◌, ◌≢◌, ℕ, ◌<◌, ◌≤◌, Bool, ℤ, List, [], ◌∷◌, ◌++◌, length, length-append, ap, sym, refl, ◌∙◌, subst, None, Some, Ok, Err, arith}
+use Rattle.std.proofs.Common.{◌≡◌, ◌≢◌, ℕ, ◌<◌, ◌≤◌, ℤ, List, [], ◌∷◌, ◌++◌, length, length-append, ap, sym, refl, ◌∙◌, subst, None, Some, Ok, Err, arith}
 use Rattle.std.specs.declared.option.Option.{Option}
 use Rattle.fate_io.specs.Causes.{Rose}
 use Rattle.fate_io.specs.Sending.{Sent}
@@ -15,7 +15,7 @@ use Rattle.parcae.specs.declared.refusal.Refusal.{Refusal}
 use Rattle.parcae.specs.declared.refusal.Source.{Source}
 use Rattle.parcae.specs.declared.refusal.Source.TheVariants as source
 use Rattle.parcae.specs.declared.status.Status.TheVariants.{NoMemory}
-use Rattle.parcae.specs.Words.{Task, Command, seq, check, replay}
+use Rattle.parcae.specs.Words.{Task, ReplayTask, Command, seq, check, replay}
 use Rattle.parcae.specs.Told.{Told}
 use Rattle.parcae.specs.Accepted.{IsAccepted}
 use Rattle.fate_io.specs.Reading.{Held, Looked}
@@ -131,13 +131,16 @@ check_due one file looked tree added way none program apart due =
     due_follows _ _ _ added way tree (never_program looked file tree added one none program) (only_program looked file tree one program) apart due
 
 -- what is due of a replay of held files, where no read failed
-pub replay_due : ((bytes : List ℕ) → One bytes) → (task : Task) (script : List ℕ) (log : Bool) (looked : Looked) (tree : Program) (numbers : List ℤ) (commands : List Order) (added : List (List ℕ)) (way : Way)
-    → added ≡ [] → HoldsProgram looked task.file tree → HoldsInput looked task.input numbers → HoldsScript looked script commands → way ≢ Unbegun empty_log
-    → DueOfCommand (outside_of looked) (Some (replay task script log)) added way → (added ≡ []) × DueOfReplay tree numbers commands task.turns task.memory log way
-replay_due one task script log looked tree numbers commands added way none program inputs scripts apart due =
-    due_follows _ _ _ added way commands (never_script looked script commands added none scripts) (only_script looked script commands scripts) apart
-    (due_follows _ _ _ added way numbers (never_input looked task.input numbers added none inputs) (only_input looked task.input numbers inputs) apart
-    (due_follows _ _ _ added way tree (never_program looked task.file tree added one none program) (only_program looked task.file tree one program) apart due))
+pub replay_due : ((bytes : List ℕ) → One bytes) → (task : ReplayTask) (looked : Looked) (tree : Program) (numbers : List ℤ) (commands : List Order) (added : List (List ℕ)) (way : Way)
+    → added ≡ [] → HoldsProgram looked task.run.file tree → HoldsInput looked task.run.input numbers → HoldsScript looked task.script commands
+    → way ≢ Unbegun empty_log → DueOfCommand (outside_of looked) (Some (replay task)) added way
+    → (added ≡ []) × DueOfReplay tree numbers commands task.run.turns task.links task.run.memory task.log way
+replay_due one task looked tree numbers commands added way none program inputs scripts apart due =
+    let file = task.run.file in
+    let input = task.run.input in
+    due_follows _ _ _ added way commands (never_script looked task.script commands added none scripts) (only_script looked task.script commands scripts) apart
+    (due_follows _ _ _ added way numbers (never_input looked input numbers added none inputs) (only_input looked input numbers inputs) apart
+    (due_follows _ _ _ added way tree (never_program looked file tree added one none program) (only_program looked file tree one program) apart due))
 
 -- a whole text is not nothing
 pub whole_apart : (told : Told) (printed later : List ℕ) (log : LogView) → Whole told printed later ≢ Unbegun log
@@ -157,8 +160,8 @@ completes one (Some (check file)) looked sent told (added, grown, e) = λ tree p
     let w = ends_whole _ sent told calm.puts calm.memory e in
     let ran = check_due one file looked tree added _ none program (whole_apart told w.0 w.1 empty_log) w.2 in
     (w.0, w.1, ran.1, w.3)
-completes one (Some (replay task script log)) looked sent told (added, grown, e) = λ tree numbers commands program inputs scripts calm.
+completes one (Some (replay task)) looked sent told (added, grown, e) = λ tree numbers commands program inputs scripts calm.
     let none : added ≡ [] = none_added looked.failed_before added (sym calm.reads ∙ grown) in
     let w = ends_whole _ sent told calm.puts calm.memory e in
-    let ran = replay_due one task script log looked tree numbers commands added _ none program inputs scripts (whole_apart told w.0 w.1 empty_log) w.2 in
+    let ran = replay_due one task looked tree numbers commands added _ none program inputs scripts (whole_apart told w.0 w.1 empty_log) w.2 in
     (w.0, w.1, ran.1, w.3)

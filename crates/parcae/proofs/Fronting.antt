@@ -219,15 +219,15 @@ tells_front one (Some (seq task)) looked sent told (added, grown, unbegun e d h 
     cut_before (meaning_of tree numbers task.turns) sent told cut.front written cut.before cut.after h b
 tells_front one (Some (check file)) looked sent told answers =
     (check_answer file looked sent told answers, λ tree written program cut. check_front one file looked sent told tree written program cut answers)
-tells_front one (Some (replay task script log)) looked sent told (added, grown, whole p l d h) = λ tree numbers commands written program inputs scripts cut.
-    absurd (whole_code (Some (replay task script log)) looked added told p l (whole_by (Some (replay task script log)) looked added told p l d) cut.broken)
-tells_front one (Some (replay task script log)) looked sent told (added, grown, write_failed e b rose) = λ tree numbers commands written program inputs scripts cut.
+tells_front one (Some (replay task)) looked sent told (added, grown, whole p l d h) = λ tree numbers commands written program inputs scripts cut.
+    absurd (whole_code (Some (replay task)) looked added told p l (whole_by (Some (replay task)) looked added told p l d) cut.broken)
+tells_front one (Some (replay task)) looked sent told (added, grown, write_failed e b rose) = λ tree numbers commands written program inputs scripts cut.
     let none : added ≡ [] = none_added looked.failed_before added (sym cut.reads ∙ grown) in
-    drive_cut _ _ (meaning_of tree numbers task.turns) _ _ _ sent told cut.front written cut.before cut.after
-    (breaks_due _ _ (λ way apart d. (replay_due one task script log looked tree numbers commands added way none program inputs scripts apart d).1) sent told b)
-tells_front one (Some (replay task script log)) looked sent told (added, grown, no_memory e b) = λ tree numbers commands written program inputs scripts cut.
+    drive_cut _ _ (meaning_of tree numbers task.run.turns) _ _ _ sent told cut.front written cut.before cut.after
+    (breaks_due _ _ (λ way apart d. (replay_due one task looked tree numbers commands added way none program inputs scripts apart d).1) sent told b)
+tells_front one (Some (replay task)) looked sent told (added, grown, no_memory e b) = λ tree numbers commands written program inputs scripts cut.
     let none : added ≡ [] = none_added looked.failed_before added (sym cut.reads ∙ grown) in
-    drive_cut _ _ (meaning_of tree numbers task.turns) _ _ _ sent told cut.front written cut.before cut.after
-    (breaks_due _ _ (λ way apart d. (replay_due one task script log looked tree numbers commands added way none program inputs scripts apart d).1) sent told b)
-tells_front one (Some (replay task script log)) looked sent told (added, grown, unbegun e d h b) = λ tree numbers commands written program inputs scripts cut.
-    inr (cut_before (meaning_of tree numbers task.turns) sent told cut.front written cut.before cut.after h b)
+    drive_cut _ _ (meaning_of tree numbers task.run.turns) _ _ _ sent told cut.front written cut.before cut.after
+    (breaks_due _ _ (λ way apart d. (replay_due one task looked tree numbers commands added way none program inputs scripts apart d).1) sent told b)
+tells_front one (Some (replay task)) looked sent told (added, grown, unbegun e d h b) = λ tree numbers commands written program inputs scripts cut.
+    inr (cut_before (meaning_of tree numbers task.run.turns) sent told cut.front written cut.before cut.after h b)

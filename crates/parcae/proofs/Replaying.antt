@@ -13,13 +13,13 @@ use Rattle.nona_plans.specs.Plans.{IsLawfulPlan, plan_of}
 use Rattle.nona_stages.specs.Seen.{is_parallel}
 use Rattle.nona_gen.specs.OfSeen.{by_plan, planned_image}
 use Rattle.morta_task.specs.declared.schemes.Scheme.{Scheme}
-use Rattle.morta_task.specs.declared.schemes.Scheme.TheVariants.{Seq, Any}
+use Rattle.morta_task.specs.declared.schemes.Scheme.TheVariants.{Seq, Any, Pipe}
 use Rattle.morta_task.specs.RegionView.{RegionView}
 use Rattle.morta_task.specs.Entries.{EntryView}
 use Rattle.morta_task.specs.ImageView.{ImageView}
 use Rattle.morta_task.specs.LogView.{LogView}
 use Rattle.weave.specs.declared.script.Command.{Command as Order}
-use Rattle.weave.specs.Replay.{IsScriptReplay, UsesScheme}
+use Rattle.weave.specs.Replay.{IsScriptReplay}
 use Rattle.weave.specs.Serving.{RunsIn}
 use Rattle.weave.specs.WeaveView.{WeaveView}
 use Rattle.weave.specs.WeavePromise.{weave_promise}
@@ -31,12 +31,10 @@ use Rattle.morta_exec.specs.Places.{most}
 use Rattle.morta_exec.specs.declared.fault.DriveFault.{DriveFault}
 use Rattle.morta_exec.specs.declared.fault.DriveFault.TheVariants as drive
 use Rattle.morta_exec.specs.Drive.{StopsShort, RunStops}
-use Rattle.parcae.specs.declared.replays.TheConstants.{CAPACITY}
 use Rattle.parcae.specs.declared.status.Status.TheVariants as status
 use Rattle.parcae.specs.Texts.{full_line}
 use Rattle.parcae.specs.Told.{Told, logged}
 use Rattle.parcae.specs.Ends.{within, Ends, write_failed, no_memory, SendsReport}
-use Rattle.parcae.specs.Files.{AskForSeqOrAny}
 use Rattle.parcae.specs.Due.{entries_in, DueOfDrive, drive_full, drive_broken}
 use Rattle.parcae.proofs.Ending.{ends_behind}
 
@@ -52,23 +50,18 @@ planned_there (l ∷ ls) zero code there =
     let is : by_plan l ≡ code = ap (or_else code) there in subst (λ (c : RegionView). c.plan ≡ plan_of c.looped) is refl
 planned_there (l ∷ ls) (suc k) code there = planned_there ls k code there
 
--- a version that a script may ask for is served, where the plan is lawful
-runs_in : (l : Loop) (plan : Plan) (s : Scheme) → IsLawfulPlan l plan → (s ≡ Seq) ⊎ (s ≡ Any) → RunsIn l plan s
-runs_in l plan s lawful (inl is) = subst (RunsIn l plan) (sym is) tt
-runs_in l plan s lawful (inr is) = subst (RunsIn l plan) (sym is) lawful
+-- each version is served, where the plan is lawful
+runs_in : (l : Loop) (plan : Plan) (s : Scheme) → IsLawfulPlan l plan → RunsIn l plan s
+runs_in l plan Seq lawful = tt
+runs_in l plan Any lawful = lawful
+runs_in l plan Pipe lawful = lawful
 
-asked_for : (script : List Order) (s : Scheme) (offered : Type 0) → AskForSeqOrAny script → (s ≡ Seq) ⊎ (((s ≡ Seq) ⊎ UsesScheme script s) × offered)
-    → (s ≡ Seq) ⊎ (s ≡ Any)
-asked_for script s offered versions (inl is) = inl is
-asked_for script s offered versions (inr (inl is, there)) = inl is
-asked_for script s offered versions (inr (inr used, there)) = versions s used
-
--- a replay of a script that asks for these versions alone serves all regions with lawful plans
-pub serves_all : (w : WeaveView) (p : Program) (image : ImageView) → image ≡ planned_image p → AskForSeqOrAny w.script
+-- a replay serves all regions with lawful plans
+pub serves_all : (w : WeaveView) (p : Program) (image : ImageView) → image ≡ planned_image p
     → ((l : Loop) → IsLawfulPlan l (plan_of l)) → ServesAll weave_promise w image
-serves_all w p image is versions lawful region code s there asked =
+serves_all w p image is lawful region code s there asked =
     let planned = planned_there (regions_all is_parallel p.body) region code (ap (λ (i : ImageView). slice_get i.regions region) (sym is) ∙ there) in
-    runs_in code.looped code.plan s (subst (IsLawfulPlan code.looped) (sym planned) (lawful code.looped)) (asked_for w.script s _ versions asked)
+    runs_in code.looped code.plan s (subst (IsLawfulPlan code.looped) (sym planned) (lawful code.looped))
 
 -- a drive whose log stands was broken off by the sink
 pub ends_write : (tree : Program) (es : List EntryView) (ran : Ran) (stands : LogView → Type 0) (memory asked : Bool) (log : LogView) (sent : Sent)
@@ -106,36 +99,36 @@ pub run_is : (p : Program) (input : List ℤ) (n : ℕ) (image : ImageView) (fro
 run_is p input n image from image_is from_is = ap (λ (i : ImageView). run_from i from) image_is ∙ ap (run_from (planned_image p)) from_is
 
 -- what a replay begins with
-pub record Begins (p : Program) (input : List ℤ) (n : ℕ) (commands : List Order) (image : ImageView) (from : Beginning) (w : WeaveView) : Type 0 where
+pub record Begins (p : Program) (input : List ℤ) (n links : ℕ) (commands : List Order) (image : ImageView) (from : Beginning) (w : WeaveView) : Type 0 where
   pub image_is : image ≡ planned_image p
   pub from_is : from ≡ beginning (start_of p input) n
   pub script_is : w.script ≡ commands
-  pub capacity_is : w.capacity ≡ CAPACITY
+  pub capacity_is : w.capacity ≡ links
 
 -- its entries are those of its program and its input
-pub entries_are : (p : Program) (input : List ℤ) (n : ℕ) (commands : List Order) (image : ImageView) (from : Beginning) (w : WeaveView)
-    → Begins p input n commands image from w → entries_from image from ≡ entries_in (planned_image p) p input n
-entries_are p input n commands image from w b = ap (λ (i : ImageView). entries_from i from) b.image_is ∙ ap (entries_from (planned_image p)) b.from_is
+pub entries_are : (p : Program) (input : List ℤ) (n links : ℕ) (commands : List Order) (image : ImageView) (from : Beginning) (w : WeaveView)
+    → Begins p input n links commands image from w → entries_from image from ≡ entries_in (planned_image p) p input n
+entries_are p input n links commands image from w b = ap (λ (i : ImageView). entries_from i from) b.image_is ∙ ap (entries_from (planned_image p)) b.from_is
 
 -- its run is the meaning of its program
-pub runs_are : (p : Program) (input : List ℤ) (n : ℕ) (commands : List Order) (image : ImageView) (from : Beginning) (w : WeaveView)
-    → Begins p input n commands image from w → run_from image from ≡ meaning_of p input n
-runs_are p input n commands image from w b = run_is p input n image from b.image_is b.from_is
+pub runs_are : (p : Program) (input : List ℤ) (n links : ℕ) (commands : List Order) (image : ImageView) (from : Beginning) (w : WeaveView)
+    → Begins p input n links commands image from w → run_from image from ≡ meaning_of p input n
+runs_are p input n links commands image from w b = run_is p input n image from b.image_is b.from_is
 
 -- where it stops short, so does the program's run
-pub stops_of : (p : Program) (input : List ℤ) (n : ℕ) (commands : List Order) (image : ImageView) (from : Beginning) (w : WeaveView) (log : LogView) (sent : Sent) (f : DriveFault)
-    → Begins p input n commands image from w → RunStops image from log.intervals sent f
+pub stops_of : (p : Program) (input : List ℤ) (n links : ℕ) (commands : List Order) (image : ImageView) (from : Beginning) (w : WeaveView) (log : LogView) (sent : Sent) (f : DriveFault)
+    → Begins p input n links commands image from w → RunStops image from log.intervals sent f
     → StopsShort (entries_in (planned_image p) p input n) (meaning_of p input n).store log.intervals sent f
-stops_of p input n commands image from w log sent f b h =
-    subst (λ (es : List EntryView). StopsShort es (meaning_of p input n).store log.intervals sent f) (entries_are p input n commands image from w b)
-    (subst (λ (r : Ran). StopsShort (entries_from image from) r.store log.intervals sent f) (runs_are p input n commands image from w b) h)
+stops_of p input n links commands image from w log sent f b h =
+    subst (λ (es : List EntryView). StopsShort es (meaning_of p input n).store log.intervals sent f) (entries_are p input n links commands image from w b)
+    (subst (λ (r : Ran). StopsShort (entries_from image from) r.store log.intervals sent f) (runs_are p input n links commands image from w b) h)
 
 -- a log that stands for its drive is that of the script's replay
-pub log_of_run : (p : Program) (input : List ℤ) (n : ℕ) (commands : List Order) (image : ImageView) (from : Beginning) (w : WeaveView) (log : LogView)
-    → Begins p input n commands image from w → LogStands weave_promise (entries_from image from) w log
-    → IsScriptReplay CAPACITY commands (entries_in (planned_image p) p input n) log
-log_of_run p input n commands image from w log b h =
-    subst (λ (c : List Order). IsScriptReplay CAPACITY c (entries_in (planned_image p) p input n) log) b.script_is
+pub log_of_run : (p : Program) (input : List ℤ) (n links : ℕ) (commands : List Order) (image : ImageView) (from : Beginning) (w : WeaveView) (log : LogView)
+    → Begins p input n links commands image from w → LogStands weave_promise (entries_from image from) w log
+    → IsScriptReplay links commands (entries_in (planned_image p) p input n) log
+log_of_run p input n links commands image from w log b h =
+    subst (λ (c : List Order). IsScriptReplay links c (entries_in (planned_image p) p input n) log) b.script_is
     (subst (λ (k : ℕ). IsScriptReplay k w.script (entries_in (planned_image p) p input n) log) b.capacity_is
-    (subst (λ (es : List EntryView). IsScriptReplay w.capacity w.script es log) (entries_are p input n commands image from w b)
+    (subst (λ (es : List EntryView). IsScriptReplay w.capacity w.script es log) (entries_are p input n links commands image from w b)
     (record { legal = h.legal; replayed = h.relation })))

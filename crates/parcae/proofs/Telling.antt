@@ -70,10 +70,10 @@ Runs looked report printed later (Some (seq task)) =
     × DueOfSeq tree (meaning_of tree numbers task.turns) task.memory (Whole report printed later)
 Runs looked report printed later (Some (check file)) =
     (tree : Program) × GivesProgram (outside_of looked) file tree × DueOfCheck tree (Whole report printed later)
-Runs looked report printed later (Some (replay task script log)) =
-    (tree : Program) × (numbers : List ℤ) × (commands : List Order) × GivesProgram (outside_of looked) task.file tree × GivesInput (outside_of looked) task.input numbers
-    × GivesScript (outside_of looked) script commands
-    × DueOfReplay tree numbers commands task.turns task.memory log (Whole report printed later)
+Runs looked report printed later (Some (replay task)) =
+    (tree : Program) × (numbers : List ℤ) × (commands : List Order) × GivesProgram (outside_of looked) task.run.file tree
+    × GivesInput (outside_of looked) task.run.input numbers × GivesScript (outside_of looked) task.script commands
+    × DueOfReplay tree numbers commands task.run.turns task.links task.run.memory task.log (Whole report printed later)
 
 -- why a whole text is due of a command: the words are none; one of its files is bad; or it runs
 pub data WholeBy (command : Option Command) (looked : Looked) (added : List (List ℕ)) (report : Told) (printed later : List ℕ) : Type 0 where
@@ -103,14 +103,14 @@ whole_by (Some (seq task)) looked added report printed later (follows tree g (fo
 whole_by (Some (check file)) looked added report printed later (stops r bad w) = by_file source.Program file r refl bad w
 whole_by (Some (check file)) looked added report printed later (starves e w) = absurd (whole_apart report printed later w)
 whole_by (Some (check file)) looked added report printed later (follows tree g (e, d)) = by_run (tree, g, d)
-whole_by (Some (replay task script log)) looked added report printed later (stops r bad w) = by_file source.Program task.file r refl bad w
-whole_by (Some (replay task script log)) looked added report printed later (starves e w) = absurd (whole_apart report printed later w)
-whole_by (Some (replay task script log)) looked added report printed later (follows tree g (stops r bad w)) =
-    let b = bad_input task.input (outside_of looked) added r bad in by_file source.Input b.0 r b.1 b.2 w
-whole_by (Some (replay task script log)) looked added report printed later (follows tree g (starves e w)) = absurd (whole_apart report printed later w)
-whole_by (Some (replay task script log)) looked added report printed later (follows tree g (follows numbers h (stops r bad w))) = by_file source.Script script r refl bad w
-whole_by (Some (replay task script log)) looked added report printed later (follows tree g (follows numbers h (starves e w))) = absurd (whole_apart report printed later w)
-whole_by (Some (replay task script log)) looked added report printed later (follows tree g (follows numbers h (follows commands k (e, d)))) =
+whole_by (Some (replay task)) looked added report printed later (stops r bad w) = by_file source.Program task.run.file r refl bad w
+whole_by (Some (replay task)) looked added report printed later (starves e w) = absurd (whole_apart report printed later w)
+whole_by (Some (replay task)) looked added report printed later (follows tree g (stops r bad w)) =
+    let b = bad_input task.run.input (outside_of looked) added r bad in by_file source.Input b.0 r b.1 b.2 w
+whole_by (Some (replay task)) looked added report printed later (follows tree g (starves e w)) = absurd (whole_apart report printed later w)
+whole_by (Some (replay task)) looked added report printed later (follows tree g (follows numbers h (stops r bad w))) = by_file source.Script task.script r refl bad w
+whole_by (Some (replay task)) looked added report printed later (follows tree g (follows numbers h (starves e w))) = absurd (whole_apart report printed later w)
+whole_by (Some (replay task)) looked added report printed later (follows tree g (follows numbers h (follows commands k (e, d)))) =
     by_run (tree, numbers, commands, g, h, k, d)
 
 -- a run that ended has a status up to 2
@@ -137,7 +137,7 @@ runs_code (Some (check file)) looked report printed later (tree, g, d) =
     let w = check_whole tree _ report printed later d refl in
     let is : code_of report.status ≡ 0 = ap (λ (t : Told). code_of t.status) w.0 in
     inl (omega (arith, is))
-runs_code (Some (replay task script log)) looked report printed later (tree, numbers, commands, g, h, k, d) =
+runs_code (Some (replay task)) looked report printed later (tree, numbers, commands, g, h, k, d) =
     drive_code _ _ _ _ _ _ report printed later (drive_whole _ _ _ _ _ _ _ report printed later d refl)
 
 -- a call that was not broken off ends whole

@@ -64,6 +64,7 @@ IsComplete (Some (seq task)) looked sent told =
     → IsCalm looked sent told → EndsWhole (DueOfSeq tree (meaning_of tree numbers task.turns) task.memory) sent told
 IsComplete (Some (check file)) looked sent told =
     (tree : Program) → HoldsProgram looked file tree → IsCalm looked sent told → EndsWhole (DueOfCheck tree) sent told
-IsComplete (Some (replay task script log)) looked sent told =
-    (tree : Program) (numbers : List ℤ) (commands : List Order) → HoldsProgram looked task.file tree → HoldsInput looked task.input numbers
-    → HoldsScript looked script commands → IsCalm looked sent told → EndsWhole (DueOfReplay tree numbers commands task.turns task.memory log) sent told
+IsComplete (Some (replay task)) looked sent told =
+    (tree : Program) (numbers : List ℤ) (commands : List Order) → HoldsProgram looked task.run.file tree
+    → HoldsInput looked task.run.input numbers → HoldsScript looked task.script commands → IsCalm looked sent told
+    → EndsWhole (DueOfReplay tree numbers commands task.run.turns task.links task.run.memory task.log) sent told

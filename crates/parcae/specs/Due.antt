@@ -11,7 +11,6 @@ use Rattle.morta_task.specs.LogView.{LogView, empty_log}
 use Rattle.morta_task.specs.Legal.{EndsAll, last_in}
 use Rattle.weave.specs.declared.script.Command.{Command as Order}
 use Rattle.weave.specs.Replay.{IsScriptReplay}
-use Rattle.parcae.specs.declared.replays.TheConstants.{CAPACITY}
 use Rattle.nona_stages.specs.Seen.{seen_of}
 use Rattle.nona_report.specs.Report.{report_text}
 use Rattle.morta_text.specs.Texts.{number_lines, outcome_text, memory_text, log_text}
@@ -59,11 +58,12 @@ pub data DueOfDrive (tree : Program) (es : List EntryView) (ran : Ran) (stands :
 abbrev pub entries_in : ImageView → Program → List ℤ → ℕ → List EntryView
 entries_in image tree numbers turns = entries_of image turns (start_of tree numbers)
 
--- what is due of the replay of a script over a program and an input: the log stands where it is that of the replay
-abbrev pub DueOfReplay : Program → List ℤ → List Order → ℕ → Bool → Bool → Way → Type 0
-DueOfReplay tree numbers commands turns =
+-- What is due of the replay of a script over a program and an input, with loops of at most so many turns and links that hold
+-- so many messages: the log stands where it is that of the replay.
+abbrev pub DueOfReplay : Program → List ℤ → List Order → (turns links : ℕ) → (memory log : Bool) → Way → Type 0
+DueOfReplay tree numbers commands turns links =
     DueOfDrive tree (entries_in (planned_image tree) tree numbers turns) (meaning_of tree numbers turns)
-    (IsScriptReplay CAPACITY commands (entries_in (planned_image tree) tree numbers turns))
+    (IsScriptReplay links commands (entries_in (planned_image tree) tree numbers turns))
 
 -- what is due of the report on the loops of a program: the whole report, of which nothing but a status is told
 pub data DueOfCheck (tree : Program) : Way → Type 0 where
@@ -83,8 +83,8 @@ DueOfCommand outside (Some (seq task)) added way =
     AllRead (DueOfSeq tree (meaning_of tree numbers task.turns) task.memory))) added way
 DueOfCommand outside (Some (check file)) added way =
     DueOf (IsBad source.Program outside file) (GivesProgram outside file) (λ tree. AllRead (DueOfCheck tree)) added way
-DueOfCommand outside (Some (replay task script log)) added way =
-    DueOf (IsBad source.Program outside task.file) (GivesProgram outside task.file) (λ tree.
-    DueOf (NoInput outside task.input) (GivesInput outside task.input) (λ numbers.
-    DueOf (IsBad source.Script outside script) (GivesScript outside script) (λ commands.
-    AllRead (DueOfReplay tree numbers commands task.turns task.memory log)))) added way
+DueOfCommand outside (Some (replay task)) added way =
+    DueOf (IsBad source.Program outside task.run.file) (GivesProgram outside task.run.file) (λ tree.
+    DueOf (NoInput outside task.run.input) (GivesInput outside task.run.input) (λ numbers.
+    DueOf (IsBad source.Script outside task.script) (GivesScript outside task.script) (λ commands.
+    AllRead (DueOfReplay tree numbers commands task.run.turns task.links task.run.memory task.log)))) added way

@@ -1,13 +1,10 @@
 -- What the files of a command give, and what is due where one of them gives nothing.
-use Rattle.std.specs.Prelude.{◌≡◌, ◌⊎◌, ℕ, ◌<◌, ◌≤◌, ℤ, List, [], ◌∷◌, ◌++◌, length, None, Some, Ok, Err, IfSome, IsSomeAnd}
+use Rattle.std.specs.Prelude.{◌≡◌, ℕ, ◌<◌, ◌≤◌, ℤ, List, [], ◌∷◌, ◌++◌, length, None, Some, Ok, Err, IfSome, IsSomeAnd}
 use Rattle.std.specs.declared.option.Option.{Option}
 use Rattle.nona_tree.specs.declared.trees.Program.{Program}
 use Rattle.nona_store.specs.declared.input.InputFault.TheVariants as input
 use Rattle.nona_store.specs.Input.{numbers_of}
 use Rattle.weave.specs.declared.script.Command.{Command as Order}
-use Rattle.weave.specs.Replay.{UsesScheme}
-use Rattle.morta_task.specs.declared.schemes.Scheme.{Scheme}
-use Rattle.morta_task.specs.declared.schemes.Scheme.TheVariants.{Seq, Any}
 use Rattle.morta_task.specs.LogView.{empty_log}
 use Rattle.morta_script.specs.Lines.{commands_of}
 use Rattle.parcae.specs.declared.files.TheConstants.{TEXT_BYTES, INPUT_BYTES}
@@ -84,10 +81,6 @@ GivesInput outside (Some file) numbers =
 abbrev pub NoInput : Outside → Option (List ℕ) → List (List ℕ) → Refusal → Type 0
 NoInput outside None added r = ⊥
 NoInput outside (Some file) added r = IsBad source.Input outside file added r
-
--- commands ask for one thread and for shared iterations alone
-abbrev pub AskForSeqOrAny : List Order → Type 0
-AskForSeqOrAny commands = (s : Scheme) → UsesScheme commands s → (s ≡ Seq) ⊎ (s ≡ Any)
 
 -- a script's file gives these commands
 abbrev pub GivesScript : Outside → List ℕ → List Order → Type 0

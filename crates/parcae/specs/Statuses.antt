@@ -12,7 +12,6 @@ use Rattle.morta_task.specs.Entries.{EntryView}
 use Rattle.morta_task.specs.Legal.{IsWholeLog}
 use Rattle.weave.specs.declared.script.Command.{Command as Order}
 use Rattle.weave.specs.Replay.{script_asks, IsReplayOf}
-use Rattle.parcae.specs.declared.replays.TheConstants.{CAPACITY}
 use Rattle.nona_stages.specs.Seen.{seen_of}
 use Rattle.nona_report.specs.Report.{report_text}
 use Rattle.morta_text.specs.Texts.{number_lines, log_text}
@@ -22,7 +21,7 @@ use Rattle.parcae.specs.declared.refusal.Source.TheVariants as source
 use Rattle.parcae.specs.declared.refusal.Refusal.{Refusal}
 use Rattle.parcae.specs.declared.refusal.Refusal.TheVariants as refusal
 use Rattle.parcae.specs.declared.status.Status.TheVariants as status
-use Rattle.parcae.specs.Words.{Task, Command, seq, check, replay}
+use Rattle.parcae.specs.Words.{Task, ReplayTask, Command, seq, check, replay}
 use Rattle.parcae.specs.Codes.{code_of}
 use Rattle.fate_io.specs.Reading.{Looked}
 use Rattle.parcae.specs.Texts.{refusal_line, refusal_status, full_line}
@@ -48,9 +47,9 @@ named (Some (seq task)) source.Script = None
 named (Some (check file)) source.Program = Some file
 named (Some (check file)) source.Input = None
 named (Some (check file)) source.Script = None
-named (Some (replay task script log)) source.Program = Some task.file
-named (Some (replay task script log)) source.Input = task.input
-named (Some (replay task script log)) source.Script = Some script
+named (Some (replay task)) source.Program = Some task.run.file
+named (Some (replay task)) source.Input = task.run.input
+named (Some (replay task)) source.Script = Some task.script
 
 -- exactly the line of a refusal was written, and its status is all that is told
 abbrev pub Says : Refusal → Sent → Told → Type 0
@@ -126,11 +125,11 @@ TellsFullLog command looked sent told = code_of told.status ≡ 18 → HasFullLo
 abbrev pub run_text : Program → Ran → Bool → List ℕ → List ℕ
 run_text tree ran memory log = number_lines ran.store.printed ++ behind_numbers tree ran memory log
 
--- the log of a whole run with these entries is the replay of a script: it is legal, each request is the script's, and each
--- interval did what the script says
-pub record IsWholeReplay (commands : List Order) (es : List EntryView) (log : LogView) : Type 0 where
-  pub whole : IsWholeLog (λ e so_far ask. ask ≡ script_asks CAPACITY commands so_far) es log
-  pub replayed : IsReplayOf CAPACITY commands log
+-- the log of a whole run with these entries is the replay of a script, with links that hold so many messages: it is legal,
+-- each request is the script's, and each interval did what the script says
+pub record IsWholeReplay (links : ℕ) (commands : List Order) (es : List EntryView) (log : LogView) : Type 0 where
+  pub whole : IsWholeLog (λ e so_far ask. ask ≡ script_asks links commands so_far) es log
+  pub replayed : IsReplayOf links commands log
 
 -- A run in one thread ended: its program and its input are held, the report is that of its sequential meaning, and exactly
 -- its text was written.
@@ -143,16 +142,17 @@ pub record HasRunInSequence (task : Task) (looked : Looked) (sent : Sent) (told 
   pub text : Appends sent.before sent.after (run_text tree (meaning_of tree numbers task.turns) task.memory [])
 
 -- The same of a replay, whose script is held and whose log is told.
-pub record HasReplayed (task : Task) (script : List ℕ) (log : Bool) (looked : Looked) (sent : Sent) (told : Told) : Type 0 where
+pub record HasReplayed (task : ReplayTask) (looked : Looked) (sent : Sent) (told : Told) : Type 0 where
   pub tree : Program
   pub numbers : List ℤ
   pub commands : List Order
-  pub program : HoldsProgram looked task.file tree
-  pub input : HoldsInput looked task.input numbers
-  pub orders : HoldsScript looked script commands
-  pub replay : IsWholeReplay commands (entries_in (planned_image tree) tree numbers task.turns) told.log
-  pub report : told ≡ finished (meaning_of tree numbers task.turns) told.log
-  pub text : Appends sent.before sent.after (run_text tree (meaning_of tree numbers task.turns) task.memory (where_asked log (log_text told.log)))
+  pub program : HoldsProgram looked task.run.file tree
+  pub input : HoldsInput looked task.run.input numbers
+  pub orders : HoldsScript looked task.script commands
+  pub replay : IsWholeReplay task.links commands (entries_in (planned_image tree) tree numbers task.run.turns) told.log
+  pub report : told ≡ finished (meaning_of tree numbers task.run.turns) told.log
+  pub text : Appends sent.before sent.after
+      (run_text tree (meaning_of tree numbers task.run.turns) task.run.memory (where_asked task.log (log_text told.log)))
 
 -- The loops of a program were reported on: it is held, nothing but the status 0 is told, and exactly the report was written.
 pub record HasReported (file : List ℕ) (looked : Looked) (sent : Sent) (told : Told) : Type 0 where
@@ -166,8 +166,7 @@ abbrev pub TellsMeaning : Option Command → Looked → Sent → Told → Type 0
 TellsMeaning None looked sent told = 2 < code_of told.status
 TellsMeaning (Some (seq task)) looked sent told = TellsFiles looked → code_of told.status ≤ 2 → HasRunInSequence task looked sent told
 TellsMeaning (Some (check file)) looked sent told = TellsFiles looked → code_of told.status ≤ 2 → HasReported file looked sent told
-TellsMeaning (Some (replay task script log)) looked sent told =
-    TellsFiles looked → code_of told.status ≤ 2 → HasReplayed task script log looked sent told
+TellsMeaning (Some (replay task)) looked sent told = TellsFiles looked → code_of told.status ≤ 2 → HasReplayed task looked sent told
 
 -- while what was written ends before the end of the printed numbers' lines, neither outcome nor store are told; behind it both
 pub record IsCutBy (ran : Ran) (written : List ℕ) (told : Told) : Type 0 where
@@ -196,7 +195,7 @@ TellsFront (Some (seq task)) looked sent told =
 TellsFront (Some (check file)) looked sent told =
     IsBare told × ((tree : Program) (written : List ℕ) → HoldsProgram looked file tree → IsCut looked sent told written
     → IsFront written (report_text (seen_of tree)))
-TellsFront (Some (replay task script log)) looked sent told =
-    (tree : Program) (numbers : List ℤ) (commands : List Order) (written : List ℕ) → HoldsProgram looked task.file tree
-    → HoldsInput looked task.input numbers → HoldsScript looked script commands → IsCut looked sent told written
-    → (IsBare told × (length told.log.intervals ≡ most)) ⊎ IsCutBy (meaning_of tree numbers task.turns) written told
+TellsFront (Some (replay task)) looked sent told =
+    (tree : Program) (numbers : List ℤ) (commands : List Order) (written : List ℕ) → HoldsProgram looked task.run.file tree
+    → HoldsInput looked task.run.input numbers → HoldsScript looked task.script commands → IsCut looked sent told written
+    → (IsBare told × (length told.log.intervals ≡ most)) ⊎ IsCutBy (meaning_of tree numbers task.run.turns) written told

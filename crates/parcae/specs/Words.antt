@@ -9,7 +9,8 @@ use Rattle.clap.specs.Simple.{App, matches_of, new_rule, new_shape}
 use Rattle.clap.specs.Takes.{is_given}
 use Rattle.clap.specs.Faults.{fault_of}
 use Rattle.clap.specs.declared.builder.action.ArgAction.TheVariants.{SetTrue}
-use Rattle.parcae.specs.declared.words.TheConstants.{DEFAULT_TURNS, TURN_LIMIT}
+use Rattle.weave.specs.declared.limits.TheConstants.{CAPACITY}
+use Rattle.parcae.specs.declared.words.TheConstants.{DEFAULT_TURNS, TURN_LIMIT, DEFAULT_LINKS}
 
 -- what a run takes: the program's file, the input's where there is one, how many turns a loop may take whenever it is
 -- entered, and whether the memory is written
@@ -19,11 +20,19 @@ pub record Task : Type 0 where
   pub turns : ℕ
   pub memory : Bool
 
--- a command: a run in one thread, what is seen of a program's loops, or the replay of a script, whose log may be written
+-- what a replay takes: what its run takes, the script's file, how many messages a link between two tasks holds, and whether
+-- the log is written
+pub record ReplayTask : Type 0 where
+  pub run : Task
+  pub script : List ℕ
+  pub links : ℕ
+  pub log : Bool
+
+-- a command: a run in one thread, what is seen of a program's loops, or the replay of a script
 pub data Command : Type 0 where
   seq : (task : Task) → Command
   check : (file : List ℕ) → Command
-  replay : (task : Task) → (script : List ℕ) → (log : Bool) → Command
+  replay : (task : ReplayTask) → Command
 
 -- a name of a file: the first word that is no option's is for the first such argument
 abbrev pub file_argument : List ℕ → Bool → Rule
@@ -58,10 +67,11 @@ seq_arguments = with_arguments (codes "seq") run_arguments
 abbrev pub check_arguments : App
 check_arguments = with_arguments (codes "check") (file_argument (codes "file") true ∷ [])
 
--- what `replay` takes: besides `--script S [--log]`
+-- what `replay` takes: besides `--script S [--log] [--links L]`
 abbrev pub replay_arguments : App
 replay_arguments =
-    with_arguments (codes "replay") (run_arguments ++ option_argument (codes "script") ∷ flag_argument (codes "log") ∷ [])
+    with_arguments (codes "replay")
+    (run_arguments ++ option_argument (codes "script") ∷ flag_argument (codes "log") ∷ option_argument (codes "links") ∷ [])
 
 -- what was found, where there is no fault
 abbrev pub where_taken : Kinds → List Row → Option (List Row)
@@ -76,6 +86,11 @@ found_in arguments words = where_taken (fault_of arguments words) (matches_of ar
 abbrev pub turns_by : Option (List ℕ) → Option ℕ
 turns_by None = Some DEFAULT_TURNS
 turns_by (Some text) = number_within 1 TURN_LIMIT text
+
+-- how many messages a link holds, by the text behind `--links`
+abbrev pub links_by : Option (List ℕ) → Option ℕ
+links_by None = Some DEFAULT_LINKS
+links_by (Some text) = number_within 1 CAPACITY text
 
 -- what a run takes, by what was found
 abbrev pub task_by : List Row → Option Task
@@ -96,9 +111,12 @@ check_by found = option_map check (first_of (codes "file") found)
 
 -- the command `replay`: there is none without a script
 abbrev pub replay_by : List Row → Option Command
-replay_by found =
-    option_and_then (λ script. option_map (λ task. replay task script (is_given (codes "log") found)) (task_by found))
-    (first_of (codes "script") found)
+replay_by found = option_and_then (λ script. option_and_then (λ links. option_map (λ run. replay (record {
+  run = run;
+  script = script;
+  links = links;
+  log = is_given (codes "log") found;
+})) (task_by found)) (links_by (first_of (codes "links") found))) (first_of (codes "script") found)
 
 -- the command that words are, or none: the first word is its name
 abbrev pub meant : List (List ℕ) → Option Command

@@ -10,7 +10,8 @@ ghost use Rattle.parcae.specs.declared.refusal.Source.TheVariants as source;
 ghost use Rattle.parcae.specs.declared.refusal.Refusal.TheVariants as refusal;
 ghost use Rattle.parcae.specs.declared.refusal.Stop.TheVariants as stop;
 ghost use Rattle.fate_io.specs.Reading.{looked_since};
-ghost use Rattle.parcae.specs.Files.{seen, limit_of, IsContent, IsBad, RefusesProgram, RefusesInput, RefusesScript, GivesProgram, GivesInput, NoInput, GivesScript, AskForSeqOrAny, Stopped, StopsText};
+ghost use Rattle.parcae.specs.Files.{seen, limit_of, IsContent, IsBad, RefusesProgram, RefusesInput, RefusesScript};
+ghost use Rattle.parcae.specs.Files.{GivesProgram, GivesInput, NoInput, GivesScript, Stopped, StopsText};
 
 use crate::refusal::{Kind, Refusal, Source, Stop};
 use fate_io::{Shelf, ShelfFault};
@@ -190,7 +191,6 @@ fn script_of(alloc: Global, text: &[u8]) -> Result<Script, Stop>
     requires { length text.now ≤ 2 ^ 20 }
     ensures script { IfOk result (λ script. commands_of text.now ≡ Ok script.commands.items) }
     ensures valid { IfOk result (λ script. AreCommands script.commands.items) }
-    ensures versions { IfOk result (λ script. AskForSeqOrAny script.commands.items) }
     ensures refused { IfErr result (StopsText (RefusesScript text.now)) }
 {
     match read_script(alloc, text) {
@@ -206,7 +206,6 @@ pub fn script_in<S: Shelf>(alloc: Global, file: &str, shelf: &mut S) -> Result<S
     ensures read { OnOk result (S.failed shelf.new ≡ S.failed shelf.old) }
     ensures gives { IfOk result (λ script. GivesScript (seen S.held shelf.old) file.now script.commands.items) }
     ensures valid { IfOk result (λ script. AreCommands script.commands.items) }
-    ensures versions { IfOk result (λ script. AskForSeqOrAny script.commands.items) }
     ensures none { IfErr result (Stopped (IsBad source.Script (seen S.held shelf.old) file.now) (looked_since S.held S.failed shelf.old shelf.new)) }
 {
     match read_file(alloc, Source::Script, file, shelf) {

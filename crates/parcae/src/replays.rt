@@ -3,9 +3,9 @@ ghost use Rattle.fate_io.specs.Sending.{sent_since};
 ghost use Rattle.nona_tree.specs.Numbers.{IsI64};
 ghost use Rattle.nona_store.specs.Input.{number_bound};
 ghost use Rattle.weave.specs.Following.{AreCommands};
+ghost use Rattle.weave.specs.declared.limits.TheConstants.{CAPACITY};
 ghost use Rattle.parcae.specs.Told.{told_of};
 ghost use Rattle.parcae.specs.Ends.{Ends};
-ghost use Rattle.parcae.specs.Files.{AskForSeqOrAny};
 ghost use Rattle.parcae.specs.Due.{DueOfReplay};
 
 use crate::report::{Report, bare, logged, once_sent};
@@ -21,8 +21,12 @@ use nona_tree::{Checked, checked_is_scoped};
 use std::alloc::Global;
 use weave::{Script, Weave};
 
-/// How many messages a link holds.
-const CAPACITY: usize = 4;
+/// What is asked of a replay: what is asked of its run, and how many messages a link between two tasks holds, from 1 to 64.
+#[derive(Clone, Copy)]
+pub struct AskedReplay {
+    pub run: Asked,
+    pub links: usize,
+}
 
 /// Replays a script over a program and an input, and writes its numbers, its outcome, and its memory and its log where they
 /// are asked for; or that the log is full, behind the numbers that were printed up to there.
@@ -31,16 +35,17 @@ pub fn replay_script<K: Sink>(
     program: &Checked,
     input: Vec<i64>,
     script: Script,
-    asked: Asked,
+    asked: AskedReplay,
     out: &mut K,
 ) -> Report
     requires few { length input.items ≤ number_bound }
     requires numbers { All IsI64 input.items }
     requires valid { AreCommands script.commands.items }
-    requires versions { AskForSeqOrAny script.commands.items }
-    requires some_turns { 1 ≤ asked.turns }
-    requires few_turns { asked.turns ≤ 10 ^ 12 }
-    ensures { Ends (DueOfReplay program.now input.items script.commands.items asked.turns asked.memory asked.log)
+    requires some_turns { 1 ≤ asked.run.turns }
+    requires few_turns { asked.run.turns ≤ 10 ^ 12 }
+    requires some_links { 1 ≤ asked.links }
+    requires few_links { asked.links ≤ CAPACITY }
+    ensures { Ends (DueOfReplay program.now input.items script.commands.items asked.run.turns asked.links asked.run.memory asked.run.log)
         (sent_since K.written K.faults out.old out.new) (told_of result) }
 {
     checked_is_scoped();
@@ -55,12 +60,12 @@ pub fn replay_script<K: Sink>(
     };
     let from = Beginning {
         store,
-        turns: asked.turns,
+        turns: asked.run.turns,
     };
-    let mut weave = Weave::new(script, CAPACITY);
+    let mut weave = Weave::new(script, asked.links);
     let mut log = Log::new(alloc);
     match drive(alloc, &image, from, &mut weave, out, &mut log) {
-        Ok(run) => finish(alloc, tree, run, log, asked, out),
+        Ok(run) => finish(alloc, tree, run, log, asked.run, out),
         Err(DriveFault::WriteFailed) => logged(Status::WriteFailed, log),
         Err(DriveFault::NoMemory) => logged(Status::NoMemory, log),
         Err(DriveFault::LogFull) => once_sent(

@@ -1,27 +1,25 @@
-ghost use Rattle.std.specs.Prelude.{◌≡◌, ◌≤◌, map, string_bytes, Some};
+ghost use Rattle.std.specs.Prelude.{◌≡◌, map, string_bytes, Some};
 ghost use Rattle.parcae.specs.Told.{told_of};
 ghost use Rattle.fate_io.specs.Sending.{sent_since};
-ghost use Rattle.parcae.specs.declared.words.TheConstants.{TURN_LIMIT};
 ghost use Rattle.parcae.specs.Words.{seq, check, replay, meant};
-ghost use Rattle.parcae.specs.Meant.{task_of};
+ghost use Rattle.parcae.specs.Meant.{task_of, replay_task_of, HasTurns, HasLinks};
 ghost use Rattle.fate_io.specs.Reading.{looked_since};
 ghost use Rattle.parcae.specs.Answers.{Answers, IsComplete};
 
 use crate::check::report_loops;
 use crate::files::{input_in, program_in, script_in};
 use crate::refusal::{Refusal, Stop, give_up};
-use crate::replays::replay_script;
+use crate::replays::{AskedReplay, replay_script};
 use crate::report::Report;
 use crate::runs::{Asked, run_in_sequence};
-use crate::words::{Command, Run, command_of};
+use crate::words::{Command, Replay, Run, command_of};
 use fate_io::{Shelf, Sink};
 use nona_parse::reads_one_tree;
 use std::alloc::Global;
 
 /// The command `seq`: runs a program in one thread.
 fn seq<S: Shelf, K: Sink>(alloc: Global, run: &Run, shelf: &mut S, out: &mut K) -> Report
-    requires some_turns { 1 ≤ run.now.turns }
-    requires few_turns { run.now.turns ≤ TURN_LIMIT }
+    requires turns { HasTurns run.now }
     ensures same { S.held shelf.new ≡ S.held shelf.old }
     ensures answers { Answers (Some (seq (task_of run.now)))
         (looked_since S.held S.failed shelf.old shelf.new)
@@ -50,29 +48,26 @@ fn check<S: Shelf, K: Sink>(alloc: Global, file: &str, shelf: &mut S, out: &mut 
 }
 
 /// The command `replay`: replays a script over a program.
-fn replay<S: Shelf, K: Sink>(
-    alloc: Global,
-    run: &Run,
-    script: &str,
-    log: bool,
-    shelf: &mut S,
-    out: &mut K,
-) -> Report
-    requires some_turns { 1 ≤ run.now.turns }
-    requires few_turns { run.now.turns ≤ TURN_LIMIT }
+fn replay<S: Shelf, K: Sink>(alloc: Global, task: &Replay, shelf: &mut S, out: &mut K) -> Report
+    requires turns { HasTurns task.now.run }
+    requires links { HasLinks task.now }
     ensures same { S.held shelf.new ≡ S.held shelf.old }
-    ensures answers { Answers (Some (replay (task_of run.now) script.now log))
+    ensures answers { Answers (Some (replay (replay_task_of task.now)))
         (looked_since S.held S.failed shelf.old shelf.new)
         (sent_since K.written K.faults out.old out.new) (told_of result) }
 {
-    match program_in(alloc, run.file.as_str(), shelf) {
-        Ok(program) => match input_in(alloc, run.input.as_deref(), shelf) {
-            Ok(input) => match script_in(alloc, script, shelf) {
+    match program_in(alloc, task.run.file.as_str(), shelf) {
+        Ok(program) => match input_in(alloc, task.run.input.as_deref(), shelf) {
+            Ok(input) => match script_in(alloc, task.script.as_str(), shelf) {
                 Ok(script) => {
-                    let asked = Asked {
-                        turns: run.turns,
-                        memory: run.memory,
-                        log,
+                    let run = Asked {
+                        turns: task.run.turns,
+                        memory: task.run.memory,
+                        log: task.log,
+                    };
+                    let asked = AskedReplay {
+                        run,
+                        links: task.links,
                     };
                     replay_script(alloc, &program, input, script, asked, out)
                 }
@@ -93,9 +88,7 @@ fn still<S: Shelf, K: Sink>(alloc: Global, words: &[String], shelf: &mut S, out:
     match command_of(alloc, words) {
         Ok(Some(Command::Seq(run))) => seq(alloc, &run, shelf, out),
         Ok(Some(Command::Check { file })) => check(alloc, file.as_str(), shelf, out),
-        Ok(Some(Command::Replay { run, script, log })) => {
-            replay(alloc, &run, script.as_str(), log, shelf, out)
-        }
+        Ok(Some(Command::Replay(task))) => replay(alloc, &task, shelf, out),
         Ok(None) => give_up(alloc, Stop::Refused(Refusal::Usage), out),
         Err(_) => give_up(alloc, Stop::NoMemory, out),
     }
@@ -106,12 +99,14 @@ fn still<S: Shelf, K: Sink>(alloc: Global, words: &[String], shelf: &mut S, out:
 /// - `seq FILE [INPUT] [--turns N] [--memory]` runs the program that the shelf holds under the first name, over the numbers
 ///   that it holds under the second, in one thread.
 /// - `check FILE` says of the program's loops which are regions, with their versions and stages, and why the others are none.
-/// - `replay FILE [INPUT] --script S [--turns N] [--memory] [--log]` replays the script that it holds under S over them.
+/// - `replay FILE [INPUT] --script S [--turns N] [--memory] [--log] [--links L]` replays the script that it holds under S over
+///   them.
 ///
 /// Behind the first word names and options stand in any order. A name doesn't begin with `-`, but is `-` itself or stands behind
-/// `--`. N, how many turns a loop may take whenever it is entered, is from 1 to 10^12, and 10^9 where it isn't said. A run writes
-/// each printed number on a line, then the outcome where it is not done, the memory and the log where they are asked for;
-/// `check` writes its report. Each line is one put.
+/// `--`. N, how many turns a loop may take whenever it is entered, is from 1 to 10^12, and 10^9 where it isn't said. L, how many
+/// messages a link between two tasks of a pipeline holds, is from 1 to 64, and 4 where it isn't said. A run writes each printed
+/// number on a line, then the outcome where it is not done, the memory and the log where they are asked for; `check` writes its
+/// report. Each line is one put.
 ///
 /// The report's status is `Done`, `Trap` or `OutOfTurns` by the program's sequential meaning, with its outcome and store, and
 /// with the log; of `check` it is `Done`, with neither and with an empty log; `LogFull` where an interval would be the 1,048,577th, after the numbers printed where it would start; `Usage`

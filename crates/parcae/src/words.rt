@@ -4,21 +4,27 @@ ghost use Rattle.clap.specs.Walk.{rule_of, first_of};
 ghost use Rattle.clap.specs.Simple.{app_of};
 ghost use Rattle.clap.specs.Takes.{is_given};
 ghost use Rattle.clap.specs.Faults.{is_simple_and_free};
-ghost use Rattle.parcae.specs.Words.{file_argument, option_argument, flag_argument, with_arguments, run_arguments, seq_arguments, check_arguments, replay_arguments, found_in, turns_by, task_by, seq_by, check_by, replay_by, meant};
-ghost use Rattle.parcae.specs.Meant.{IsMeant, HasTurns, entries, task_of};
+ghost use Rattle.parcae.specs.Words.{file_argument, option_argument, flag_argument, with_arguments, run_arguments, seq_arguments, check_arguments, replay_arguments};
+ghost use Rattle.parcae.specs.Words.{found_in, turns_by, links_by, task_by, seq_by, check_by, replay_by, meant};
+ghost use Rattle.parcae.specs.Meant.{IsMeant, HasTurns, IsInRange, entries, task_of};
 ghost use Rattle.parcae.specs.declared.words.TheConstants.{TURN_LIMIT};
+ghost use Rattle.weave.specs.declared.limits.TheConstants as limits;
 
 use clap::error::ErrorKind;
 use clap::parser::ValueSource;
 use clap::{Arg, ArgAction, ArgMatches};
 use nona_text::number_within;
 use std::alloc::{AllocError, Global};
+use weave::CAPACITY;
 
 /// How many turns a loop may take whenever it is entered, where the words don't say.
 const DEFAULT_TURNS: u64 = 1_000_000_000;
 
 /// The most turns of a loop.
 const TURN_LIMIT: u64 = 1_000_000_000_000;
+
+/// How many messages a link between two tasks holds, where the words don't say.
+const DEFAULT_LINKS: usize = 4;
 
 /// What a run takes: the program's file, the input's where there is one, how many turns a loop may take whenever it is
 /// entered, from 1 to 10^12, and whether the memory is written.
@@ -30,6 +36,16 @@ pub struct Run {
     pub memory: bool,
 }
 
+/// What a replay takes: what its run takes, the script's file, how many messages a link between two tasks holds, from 1 to 64,
+/// and whether the log is written.
+#[derive(Drop)]
+pub struct Replay {
+    pub run: Run,
+    pub script: String,
+    pub links: usize,
+    pub log: bool,
+}
+
 /// A command.
 #[derive(Drop)]
 pub enum Command {
@@ -37,8 +53,8 @@ pub enum Command {
     Seq(Run),
     /// What is seen of the loops of the program in a file.
     Check { file: String },
-    /// The replay of the script in a file, whose log may be written.
-    Replay { run: Run, script: String, log: bool },
+    /// The replay of the script in a file.
+    Replay(Replay),
 }
 
 /// A name of a file: the first word that is no option's is for the first such argument.
@@ -92,13 +108,14 @@ fn check_arguments<'a>(alloc: Global) -> Result<clap::Command<'a>, AllocError>
     without_arguments(alloc, "check").arg(file_argument(alloc, "file", true))
 }
 
-/// What `replay` takes: besides what runs a program `--script S [--log]`.
+/// What `replay` takes: besides what runs a program `--script S [--log] [--links L]`.
 fn replay_arguments<'a>(alloc: Global) -> Result<clap::Command<'a>, AllocError>
     ensures { IfOk result (λ arguments. app_of arguments ≡ replay_arguments) }
 {
     run_arguments(alloc, "replay")?
         .arg(option_argument(alloc, "script"))?
-        .arg(flag_argument(alloc, "log"))
+        .arg(flag_argument(alloc, "log"))?
+        .arg(option_argument(alloc, "links"))
 }
 
 /// What is found in the words behind a command's name, or none where they are refused. The one error is that memory ran out.
@@ -160,10 +177,24 @@ fn turns_by(text: Option<&str>) -> Option<u64>
     }
 }
 
+/// How many messages a link holds, by the text behind `--links`: a number from 1 to 64, or none.
+fn links_by(text: Option<&str>) -> Option<usize>
+    ensures value { result ≡ links_by (option_copied text.entry) }
+    ensures within { IfSome result (λ links. (1 ≤ links) × (links ≤ limits.CAPACITY)) }
+{
+    match text {
+        Some(text) => match number_within(1, CAPACITY as u64, text.as_bytes()) {
+            Some(links) => Some(links as usize),
+            None => None,
+        },
+        None => Some(DEFAULT_LINKS),
+    }
+}
+
 /// What a run takes, by what was found.
 fn run_by(alloc: Global, found: &ArgMatches<'_>) -> Result<Option<Run>, AllocError>
     ensures task { IfOk result (λ run. option_map task_of run ≡ task_by (entries found.now)) }
-    ensures turns { IfOk result (λ run. IfSome run (λ r. (1 ≤ r.turns) × (r.turns ≤ TURN_LIMIT))) }
+    ensures turns { IfOk result (λ run. IfSome run HasTurns) }
 {
     let Some(file) = text_of(found, "file") else {
         return Ok(None);
@@ -185,7 +216,7 @@ fn run_by(alloc: Global, found: &ArgMatches<'_>) -> Result<Option<Run>, AllocErr
 /// The command `seq` with these words behind its name, where they are its.
 fn seq_by(alloc: Global, words: &[String]) -> Result<Option<Command>, AllocError>
     ensures meant { IfOk result (λ c. IsMeant c (option_and_then seq_by (found_in seq_arguments (map string_bytes words.now)))) }
-    ensures turns { IfOk result (λ c. IfSome c HasTurns) }
+    ensures ranges { IfOk result (λ c. IfSome c IsInRange) }
 {
     let Some(found) = found_in(run_arguments(alloc, "seq")?, words)? else {
         return Ok(None);
@@ -199,7 +230,7 @@ fn seq_by(alloc: Global, words: &[String]) -> Result<Option<Command>, AllocError
 /// The command `check` with these words behind its name, where they are its.
 fn check_by(alloc: Global, words: &[String]) -> Result<Option<Command>, AllocError>
     ensures meant { IfOk result (λ c. IsMeant c (option_and_then check_by (found_in check_arguments (map string_bytes words.now)))) }
-    ensures turns { IfOk result (λ c. IfSome c HasTurns) }
+    ensures ranges { IfOk result (λ c. IfSome c IsInRange) }
 {
     let Some(found) = found_in(check_arguments(alloc)?, words)? else {
         return Ok(None);
@@ -214,7 +245,7 @@ fn check_by(alloc: Global, words: &[String]) -> Result<Option<Command>, AllocErr
 /// The command `replay` with these words behind its name, where they are its.
 fn replay_by(alloc: Global, words: &[String]) -> Result<Option<Command>, AllocError>
     ensures meant { IfOk result (λ c. IsMeant c (option_and_then replay_by (found_in replay_arguments (map string_bytes words.now)))) }
-    ensures turns { IfOk result (λ c. IfSome c HasTurns) }
+    ensures ranges { IfOk result (λ c. IfSome c IsInRange) }
 {
     let Some(found) = found_in(replay_arguments(alloc)?, words)? else {
         return Ok(None);
@@ -222,12 +253,20 @@ fn replay_by(alloc: Global, words: &[String]) -> Result<Option<Command>, AllocEr
     let Some(script) = text_of(&found, "script") else {
         return Ok(None);
     };
+    let Some(links) = links_by(text_of(&found, "links")) else {
+        return Ok(None);
+    };
     let Some(run) = run_by(alloc, &found)? else {
         return Ok(None);
     };
     let script = String::from_str(alloc, script)?;
     let log = is_given(&found, "log");
-    Ok(Some(Command::Replay { run, script, log }))
+    Ok(Some(Command::Replay(Replay {
+        run,
+        script,
+        links,
+        log,
+    })))
 }
 
 /// The first word and those behind it.
@@ -243,7 +282,7 @@ fn split_first(words: &[String]) -> Option<(&str, &[String])>
 /// The command that words are, where they are one. The one error is that memory ran out.
 pub fn command_of(alloc: Global, words: &[String]) -> Result<Option<Command>, AllocError>
     ensures meant { IfOk result (λ c. IsMeant c (meant (map string_bytes words.now))) }
-    ensures turns { IfOk result (λ c. IfSome c HasTurns) }
+    ensures ranges { IfOk result (λ c. IfSome c IsInRange) }
 {
     match split_first(words) {
         Some((name, rest)) => {

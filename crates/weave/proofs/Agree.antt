@@ -14,6 +14,7 @@ use Rattle.weave.specs.declared.script.Command.{Command}
 use Rattle.net_flow.specs.Machines.{Machine, is_over, round, RunsOut, at_end, one_round}
 use Rattle.weave.specs.SeqNet.{seq_machine, ran_of}
 use Rattle.weave.specs.Shared.{shared_machine, shared_ran}
+use Rattle.weave.specs.Staged.{staged_machine, staged_ran}
 use Rattle.weave.specs.Replay.{behind_use, left_behind, IsReplayedIn, IsReplayed, IsDriven, AreDriven, IsReplay}
 use Rattle.weave.proofs.OneMore.{Grown, grown}
 
@@ -37,7 +38,8 @@ replayed_in_once Seq workers capacity e from limit commands one other (end, out,
     is ∙ ap ran_of (runs_out_once seq_machine _ end end' out out') ∙ sym is'
 replayed_in_once Any workers capacity e from limit commands one other (end, out, is) (end', out', is') =
     is ∙ ap (shared_ran e (before e from)) (runs_out_once (shared_machine e (before e from) workers) _ end end' out out') ∙ sym is'
-replayed_in_once Pipe workers capacity e from limit commands one other h k = absurd h
+replayed_in_once Pipe workers capacity e from limit commands one other (end, out, is) (end', out', is') =
+    is ∙ ap (staged_ran e (before e from)) (runs_out_once (staged_machine e (before e from) workers capacity) _ end end' out out') ∙ sym is'
 
 -- what an option has, or the other one
 abbrev or_else : EntryView → Option EntryView → EntryView

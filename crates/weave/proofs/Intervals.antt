@@ -1,5 +1,5 @@
 -- An interval, from its first command to its end.
-use Rattle.std.proofs.Common.{◌≡◌, ◌≤◌, ℕ, List, refl, sym, ap, subst, ◌∙◌}
+use Rattle.std.proofs.Common.{◌≡◌, ◌≤◌, ℕ, List, IsTrue, refl, sym, ap, subst, ◌∙◌}
 use Rattle.std.specs.Int.{int_gap}
 use Rattle.nona_tree.specs.Run.{Ran as Run}
 use Rattle.morta_task.specs.declared.schemes.Scheme.{Scheme}
@@ -7,25 +7,31 @@ use Rattle.morta_task.specs.declared.schemes.Scheme.TheVariants.{Seq, Any, Pipe}
 use Rattle.morta_task.specs.declared.schemes.Config.{Config}
 use Rattle.morta_task.specs.declared.intervals.Handoff.{Handoff}
 use Rattle.morta_task.specs.declared.intervals.Ran.{Ran}
-use Rattle.morta_task.specs.Entries.{EntryView, IsEntered, before, last, state_after}
-use Rattle.morta_task.specs.Running.{HasWorkers, IsConfig, IsHandoff, IsDone, HandsOn}
+use Rattle.morta_task.specs.Entries.{EntryView, IsEntered, before, last, loop_of, offers, state_after}
+use Rattle.morta_task.specs.Running.{HasWorkers, IsHandoff, IsDone, HandsOn}
 use Rattle.weave.specs.declared.script.Command.{Command}
+use Rattle.net_stages.specs.Entries.{MayPipe}
 use Rattle.net_flow.specs.Machines.{Machine, RunsOut}
 use Rattle.weave.specs.Following.{Followed, follow}
-use Rattle.weave.specs.NetView.{NetView, One, Shared, machine, BeginsIn, EndsWith}
+use Rattle.weave.specs.NetView.{NetView, One, Shared, Staged, machine, BeginsIn, EndsWith}
 use Rattle.weave.specs.SeqNet.{SeqNet, seq_machine, begun_net}
+use Rattle.weave.specs.Serving.{RunsIn}
 use Rattle.weave.specs.Shared.{shared_machine, begun_shared}
+use Rattle.weave.specs.Staged.{staged_machine, begun_staged}
+use Rattle.weave.specs.StagedTasks.{OffersStages}
 use Rattle.weave.specs.Replay.{followed_in_sequence, commands_left_in, IsReplayedIn}
 use Rattle.weave.proofs.Ends.{sound_end, is_done, handed_on}
 use Rattle.weave.proofs.Injected.{IsPart, follow_part, runs_out_part}
+use Rattle.weave.proofs.MayPipe.{may_pipe}
 use Rattle.weave.proofs.RunsOut.{out_is_finished}
 use Rattle.weave.proofs.SharedEnds.{shared_done, shared_hands_on}
-use Rattle.weave.proofs.Versions.{one_is_part, shared_is_part}
+use Rattle.weave.proofs.StagedEnds.{staged_done, staged_hands_on}
+use Rattle.weave.proofs.Versions.{one_is_part, shared_is_part, staged_is_part}
 
 -- the machine began so, followed these commands, and has run out; and the interval did this and hands this on
-pub record HasRunOut (s : Scheme) (workers : ℕ) (e : EntryView) (handoff : Handoff) (limit : ℕ) (commands left : List Command) (ran : Ran) (next : Handoff) : Type 0 where
+pub record HasRunOut (s : Scheme) (workers capacity : ℕ) (e : EntryView) (handoff : Handoff) (limit : ℕ) (commands left : List Command) (ran : Ran) (next : Handoff) : Type 0 where
   pub first : NetView
-  pub begun : BeginsIn s workers e handoff.next limit handoff.store first
+  pub begun : BeginsIn s workers capacity e handoff.next limit handoff.store first
   pub net : NetView
   pub follows : follow machine commands first ≡ record { net = net; left = left }
   pub end : NetView
@@ -64,7 +70,7 @@ same_follow e handoff limit commands h =
 
 in_sequence : (workers capacity : ℕ) (c : Config) (e : EntryView) (handoff : Handoff) (limit : ℕ) (commands left : List Command) (ran : Ran) (next : Handoff)
     → c.scheme ≡ Seq → IsEntered e → IsHandoff e handoff → limit ≤ int_gap handoff.next (last e)
-    → HasRunOut Seq workers e handoff limit commands left ran next → IsInterval Seq workers capacity c e handoff limit commands left ran next
+    → HasRunOut Seq workers capacity e handoff limit commands left ran next → IsInterval Seq workers capacity c e handoff limit commands left ran next
 in_sequence workers capacity c e handoff limit commands left ran next seq entered state room h =
     let begun = begun_net e (before e handoff.next) limit handoff.store in
     let p = part_run_out seq_machine One one_is_part begun h.first h.net h.end commands left h.begun h.follows h.out in
@@ -84,7 +90,7 @@ in_sequence workers capacity c e handoff limit commands left ran next seq entere
 
 by_tasks : (workers capacity : ℕ) (c : Config) (e : EntryView) (handoff : Handoff) (limit : ℕ) (commands left : List Command) (ran : Ran) (next : Handoff)
     → 1 ≤ workers → IsHandoff e handoff → limit ≤ int_gap handoff.next (last e)
-    → HasRunOut Any workers e handoff limit commands left ran next → IsInterval Any workers capacity c e handoff limit commands left ran next
+    → HasRunOut Any workers capacity e handoff limit commands left ran next → IsInterval Any workers capacity c e handoff limit commands left ran next
 by_tasks workers capacity c e handoff limit commands left ran next some state room h =
     let a = before e handoff.next in
     let p = part_run_out (shared_machine e a workers) (Shared e a workers) (shared_is_part e a workers) (begun_shared e a limit workers) h.first h.net h.end commands left h.begun h.follows h.out in
@@ -101,19 +107,49 @@ by_tasks workers capacity c e handoff limit commands left ran next some state ro
       leaves = p.leaves;
     }
 
+by_stages : (workers capacity : ℕ) (c : Config) (e : EntryView) (handoff : Handoff) (limit : ℕ) (commands left : List Command) (ran : Ran) (next : Handoff)
+    → MayPipe (loop_of e) e.plan workers capacity (before e handoff.next) limit → IsHandoff e handoff → limit ≤ int_gap handoff.next (last e)
+    → HasRunOut Pipe workers capacity e handoff limit commands left ran next → IsInterval Pipe workers capacity c e handoff limit commands left ran next
+by_stages workers capacity c e handoff limit commands left ran next may state room h =
+    let a = before e handoff.next in
+    let seen = Staged e a workers capacity in
+    let p = part_run_out (staged_machine e a workers capacity) seen (staged_is_part e a workers capacity) (begun_staged e a limit workers capacity) h.first h.net h.end commands left h.begun h.follows h.out in
+    let ends : EndsWith (seen p.last) ran next = subst (λ (n : NetView). EndsWith n ran next) p.is h.ends in
+    record {
+      did = subst (IsDone e c handoff.next limit) (sym ends.0)
+          (staged_done e handoff.next limit workers capacity may commands p.last p.out next.store ends.2 c state.within room);
+      hands_on = record {
+        next = ends.1;
+        store = staged_hands_on e handoff.next limit workers capacity may commands p.last p.out next.store ends.2
+            ∙ ap (λ (r : Ran). (state_after e (before e r.to)).store) (sym ends.0);
+      };
+      replayed = (p.last, p.out, ends.0);
+      leaves = p.leaves;
+    }
+
+-- what the interval of a configuration needs, to run in this version
+pub record IsOffered (s : Scheme) (workers capacity : ℕ) (e : EntryView) : Type 0 where
+  pub served : RunsIn e.looped e.plan s
+  pub offered : IsTrue (offers e s)
+  pub crew : HasWorkers s workers
+  pub room : 1 ≤ capacity
+
 in_version : (s : Scheme) (workers capacity : ℕ) (c : Config) (e : EntryView) (handoff : Handoff) (limit : ℕ) (commands left : List Command) (ran : Ran) (next : Handoff)
-    → c.scheme ≡ s → HasWorkers s workers → IsEntered e → IsHandoff e handoff → limit ≤ int_gap handoff.next (last e)
-    → HasRunOut s workers e handoff limit commands left ran next → IsInterval s workers capacity c e handoff limit commands left ran next
-in_version Seq workers capacity c e handoff limit commands left ran next is some entered state room h =
+    → c.scheme ≡ s → IsOffered s workers capacity e → IsEntered e → IsHandoff e handoff → limit ≤ int_gap handoff.next (last e)
+    → HasRunOut s workers capacity e handoff limit commands left ran next → IsInterval s workers capacity c e handoff limit commands left ran next
+in_version Seq workers capacity c e handoff limit commands left ran next is by entered state room h =
     in_sequence workers capacity c e handoff limit commands left ran next is entered state room h
-in_version Any workers capacity c e handoff limit commands left ran next is some entered state room h =
-    by_tasks workers capacity c e handoff limit commands left ran next some.0 state room h
-in_version Pipe workers capacity c e handoff limit commands left ran next is some entered state room h = absurd h.begun
+in_version Any workers capacity c e handoff limit commands left ran next is by entered state room h =
+    by_tasks workers capacity c e handoff limit commands left ran next by.crew.0 state room h
+in_version Pipe workers capacity c e handoff limit commands left ran next is by entered state room h =
+    let offers : OffersStages e = record { lawful = by.served; offered = by.offered } in
+    by_stages workers capacity c e handoff limit commands left ran next
+    (may_pipe e handoff.next limit workers capacity entered offers state.within room by.crew.0 by.room) state room h
 
 -- an interval that has run out, in any configuration
 pub is_interval : (capacity : ℕ) (c : Config) (e : EntryView) (handoff : Handoff) (limit : ℕ) (commands left : List Command) (ran : Ran) (next : Handoff)
-    → IsConfig c → IsEntered e → IsHandoff e handoff → limit ≤ int_gap handoff.next (last e)
-    → HasRunOut c.scheme c.workers e handoff limit commands left ran next
+    → IsOffered c.scheme c.workers capacity e → IsEntered e → IsHandoff e handoff → limit ≤ int_gap handoff.next (last e)
+    → HasRunOut c.scheme c.workers capacity e handoff limit commands left ran next
     → IsInterval c.scheme c.workers capacity c e handoff limit commands left ran next
-is_interval capacity c e handoff limit commands left ran next config entered state room h =
-    in_version c.scheme c.workers capacity c e handoff limit commands left ran next refl config entered state room h
+is_interval capacity c e handoff limit commands left ran next by entered state room h =
+    in_version c.scheme c.workers capacity c e handoff limit commands left ran next refl by entered state room h

@@ -2,6 +2,7 @@
 use Rattle.std.proofs.Common.{◌≡◌, ◌≤◌, ◌+◌, ℕ, ℤ, pos, negsuc, ◌+ℤ◌, ◌≤ℤ◌, ◌<ℤ◌, Bool, true, false, ◌&&◌, refl, sym, ◌∙◌, arith, min}
 use Rattle.std.proofs.lemmas.Int.{ints}
 use Rattle.std.specs.Int.{int_gap}
+use Rattle.nona_forms.specs.Separate.{IsLoopEntry}
 use Rattle.morta_task.specs.Entries.{EntryView, IsEntered, IsWithin, before, last, loop_of, is_guarded}
 use Rattle.net_share.specs.Entries.{MayShare}
 use Rattle.weave.specs.SharedTasks.{OffersSharing}
@@ -20,25 +21,29 @@ few_turns g t = omega arith
 below_high : (e : EntryView) → e.low <ℤ last e → last e ≤ℤ e.high
 below_high e some = below e.low e.high (min (int_gap e.low e.high) e.turns) (few_turns (int_gap e.low e.high) e.turns) some
 
-both : (a b : Bool) → (a && b) ≡ true → (a ≡ true) × (b ≡ true)
+pub both : (a b : Bool) → (a && b) ≡ true → (a ≡ true) × (b ≡ true)
 both true b h = (refl, h)
 both false b h = cc
 
-within_last : (low last : ℤ) (n all : ℕ) → last ≡ low +ℤ pos all → n ≤ all → (low +ℤ pos n) ≤ℤ last
+pub within_last : (low last : ℤ) (n all : ℕ) → last ≡ low +ℤ pos all → n ≤ all → (low +ℤ pos n) ≤ℤ last
 within_last low last n all is few = omega (arith, ints, is, few)
+
+-- the entry is one of its loop
+pub is_loop_entry : (e : EntryView) → IsEntered e → IsLoopEntry e.looped e.store e.low (last e)
+is_loop_entry e entered = record {
+  numbers = entered.store_numbers;
+  written = entered.loop_numbers;
+  scoped = entered.scoped;
+  begins = entered.low_is;
+  ends = (e.high, entered.high_is, below_high e);
+}
 
 pub may_share : (e : EntryView) (from : ℤ) (limit : ℕ) → IsEntered e → OffersSharing e → IsWithin e from → limit ≤ int_gap from (last e)
     → MayShare (loop_of e) (before e from) limit
 may_share e from limit entered offers within room =
     let two = both e.plan.any (is_guarded e) (sym entered.any ∙ offers.offered) in
     record {
-      entered = record {
-        numbers = entered.store_numbers;
-        written = entered.loop_numbers;
-        scoped = entered.scoped;
-        begins = entered.low_is;
-        ends = (e.high, entered.high_is, below_high e);
-      };
+      entered = is_loop_entry e entered;
       steady = entered.steady;
       calm = offers.lawful.any_calm two.0;
       guarded = two.1;

@@ -2,22 +2,15 @@
 use Rattle.std.proofs.Common.{ℕ, refl, sym, ◌∙◌}
 use Rattle.nona_tree.specs.Memory.{Memory}
 use Rattle.morta_task.specs.Entries.{EntryView, loop_of}
-use Rattle.net_flow.specs.Net.{Net, Work}
-use Rattle.net_flow.specs.Sharing.{LawfulSharing, IsSharedNet}
+use Rattle.net_flow.specs.Net.{Net}
+use Rattle.net_flow.specs.Sharing.{IsSharedNet}
 use Rattle.net_flow.proofs.SharingMachine.{sharing_keeps, sharing_pauses}
 use Rattle.net_flow.proofs.BegunSharing.{begun_sharing}
 use Rattle.net_share.specs.Entries.{begun_in, work_in}
 use Rattle.net_share.specs.Kept.{no_meaning}
+use Rattle.net_share.proofs.Keeping.{any_work}
 use Rattle.weave.specs.Shared.{begun_shared, shared_machine}
 use Rattle.weave.proofs.Keeping.{Kept}
-
--- any work is lawful then
-pub any_work : (work : Work Memory (Unit {0})) (limit : ℕ) → LawfulSharing work no_meaning limit
-any_work work limit = record {
-  enter = λ t claimants v below h. tt;
-  unit = λ t claimants u v below inner h. tt;
-  leave = λ t claimants v below h. tt;
-}
 
 -- the net of so many tasks that share the iterations of an entry
 abbrev pub IsAnyNet : EntryView → ℕ → ℕ → ℕ → Net Memory (Unit {0}) → Type 0

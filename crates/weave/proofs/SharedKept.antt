@@ -21,7 +21,7 @@ use Rattle.net_share.specs.Gathered.{views_of}
 use Rattle.net_share.specs.Kept.{IsEnd, IsSharing, MayMove, Stays, net_of, store_of, work_of}
 use Rattle.net_share.specs.May.{MayStep}
 use Rattle.net_share.specs.Settled.{IsSettledFrom}
-use Rattle.net_share.specs.Tasks.{TaskView, task_over}
+use Rattle.net_share.specs.Tasks.{TaskView, task_over, share_of}
 use Rattle.net_share.specs.Works.{Doing, doing, sharing_work}
 use Rattle.weave.specs.declared.shared_tasks.SharedTasks.{SharedTasks}
 use Rattle.weave.specs.NetView.{Shared, StepSays, machine}
@@ -123,11 +123,11 @@ steps_so e b W limit task net next true stands finished moved goes_on =
 steps_so e b W limit task net next false stands going moved goes_on = subst (IsEntryNet (loop_of e) b limit W) (sym moved) (goes_on going)
 
 -- what the tasks saw
-values_of : (m : Memory) (tasks : List TaskView) → map (λ (x : Task Memory). x.values) (map (task_over m) tasks) ≡ views_of m tasks
+values_of : (m : Memory) (tasks : List TaskView) → map (λ (x : Task Memory). x.values) (map (task_over m) tasks) ≡ views_of share_of m tasks
 values_of m [] = refl
 values_of m (x ∷ rest) = ap (λ (vs : List Memory). (task_over m x).values ∷ vs) (values_of m rest)
 
-pub seen_by : (n : Sharing) → map (λ (x : Task Memory). x.values) (net_of n).tasks ≡ views_of (store_of n) n.tasks.items
+pub seen_by : (n : Sharing) → map (λ (x : Task Memory). x.values) (net_of n).tasks ≡ views_of share_of (store_of n) n.tasks.items
 seen_by n = values_of n.store n.tasks.items
 
 -- the index behind so many iterations
@@ -181,7 +181,7 @@ index_there e b m entered state =
 
 -- what is settled from what the tasks saw is settled in the entry
 pub settled_in : (t : SharedTasks) (m : Memory) → IsSharedTasks t
-    → IsSettledFrom (store_of t.sharing) t.reductions.now (views_of (store_of t.sharing) t.sharing.tasks.items) m
+    → IsSettledFrom (store_of t.sharing) t.reductions.now (views_of share_of (store_of t.sharing) t.sharing.tasks.items) m
     → IsSettledFrom (state_after t.entry.now (done_before t)).store (reductions_of t.entry.now.looped)
     (map (λ (x : Task Memory). x.values) (net_of t.sharing).tasks) m
 settled_in t m s h =

@@ -14,7 +14,8 @@ use Rattle.net_share.specs.Kept.{no_meaning, most_moves}
 use Rattle.weave.specs.Following.{follow}
 use Rattle.weave.specs.Shared.{begun_shared, shared_machine}
 use Rattle.weave.proofs.Keeping.{kept_follow, kept_out, out_is_over}
-use Rattle.weave.proofs.NoMeaning.{IsAnyNet, any_work, any_kept, any_begun}
+use Rattle.net_share.proofs.Keeping.{any_work}
+use Rattle.weave.proofs.NoMeaning.{IsAnyNet, any_kept, any_begun}
 
 -- no task moved more often than all together
 pub most_of : (tasks : List (Task Memory)) → most_moves tasks ≤ sum_by (λ (x : Task Memory). x.moves) tasks

@@ -6,8 +6,10 @@ pub mod Obeys
 pub mod Asking
 pub mod OneTask
 pub mod Shared
+pub mod Staged
 pub mod NetView
 pub mod SharedTasks
+pub mod StagedTasks
 pub mod Nets
 pub mod Serving
 pub mod WeaveView

@@ -18,7 +18,9 @@ use Rattle.net_flow.specs.Machines.{RunsOut}
 use Rattle.net_flow.specs.Net.{Net}
 use Rattle.weave.specs.Following.{Followed, follow}
 use Rattle.weave.specs.SeqNet.{SeqNet, begun_net, seq_machine, ran_of}
+use Rattle.net_stages.specs.Works.{Values}
 use Rattle.weave.specs.Shared.{shared_machine, begun_shared, shared_ran}
+use Rattle.weave.specs.Staged.{staged_machine, begun_staged, staged_ran}
 
 -- the machine of an interval under `seq` that begins at an index, once it has followed the commands
 abbrev pub followed_in_sequence : EntryView → ℤ → ℕ → List Command → Followed SeqNet
@@ -30,6 +32,11 @@ abbrev pub followed_by_tasks : EntryView → ℤ → ℕ → ℕ → List Comman
 followed_by_tasks e from limit workers commands =
     follow (shared_machine e (before e from) workers) commands (begun_shared e (before e from) limit workers)
 
+-- the same of the machine of the tasks of the stages, with so many workers and so many messages in a link
+abbrev pub followed_by_stages : EntryView → ℤ → ℕ → ℕ → ℕ → List Command → Followed (Net Values (List ℤ))
+followed_by_stages e from limit workers capacity commands =
+    follow (staged_machine e (before e from) workers capacity) commands (begun_staged e (before e from) limit workers capacity)
+
 -- what an interval did in this version, with so many workers, whose links hold so many messages
 abbrev pub IsReplayedIn : Scheme → ℕ → ℕ → EntryView → ℤ → ℕ → List Command → Ran → Type 0
 IsReplayedIn Seq workers capacity e from limit commands done =
@@ -37,11 +44,13 @@ IsReplayedIn Seq workers capacity e from limit commands done =
 IsReplayedIn Any workers capacity e from limit commands done =
     (end : Net Memory (Unit {0})) × RunsOut (shared_machine e (before e from) workers) (followed_by_tasks e from limit workers commands).net end
     × (done ≡ shared_ran e (before e from) end)
-IsReplayedIn Pipe workers capacity e from limit commands done = ⊥
+IsReplayedIn Pipe workers capacity e from limit commands done =
+    (end : Net Values (List ℤ))
+    × RunsOut (staged_machine e (before e from) workers capacity) (followed_by_stages e from limit workers capacity commands).net end
+    × (done ≡ staged_ran e (before e from) end)
 
 -- What an interval did that ran in this configuration, where a link holds so many messages, from an index up to a limit, with
 -- these commands left at its start: the commands are followed, and then the tasks step round robin until all have finished.
--- A replay runs `seq` and `any` so far: no interval in another version is one of a replay.
 abbrev pub IsReplayed : ℕ → Config → EntryView → ℤ → ℕ → List Command → Ran → Type 0
 IsReplayed capacity config = IsReplayedIn config.scheme config.workers capacity
 
@@ -49,7 +58,7 @@ IsReplayed capacity config = IsReplayedIn config.scheme config.workers capacity
 abbrev pub commands_left_in : Scheme → ℕ → ℕ → EntryView → ℤ → ℕ → List Command → List Command
 commands_left_in Seq workers capacity e from limit commands = (followed_in_sequence e from limit commands).left
 commands_left_in Any workers capacity e from limit commands = (followed_by_tasks e from limit workers commands).left
-commands_left_in Pipe workers capacity e from limit commands = commands
+commands_left_in Pipe workers capacity e from limit commands = (followed_by_stages e from limit workers capacity commands).left
 
 -- the commands that an interval in this configuration leaves
 abbrev pub commands_left : ℕ → Config → EntryView → ℤ → ℕ → List Command → List Command

@@ -26,7 +26,7 @@ pub data HasAsked (w : WeaveView) (log : LogView) (e : EntryView) : Type 0 where
   by_itself : IsAtHand log e → HasTaken w log → HasAsked w log e
   by_anyone : IsAtHand log e → w.script ≡ [] → StandsFor w log → HasAsked w log e
 
--- It runs `seq`, and `any` where the plan is lawful, and asks for what its script says; it asks for what it runs itself, but where
+-- It runs `seq`, and `any` and `pipe` where the plan is lawful, and asks for what its script says; it asks for what it runs itself, but where
 -- its script is empty it runs what anyone asks for. It need not be told: with an interval it stands for the log with it.
 abbrev pub weave_promise : Promise WeaveView
 weave_promise = record {

@@ -10,49 +10,65 @@ ghost use Rattle.weave.specs.Nets.{IsNet, view_of};
 ghost use Rattle.weave.specs.Serving.{RunsIn};
 
 use crate::one_task::OneTask;
+use crate::setting::Setting;
 use crate::shared_tasks::SharedTasks;
-use morta_task::{Config, Entry, Handoff, Ran, RegionCode, Scheme};
+use crate::staged_tasks::StagedTasks;
+use morta_task::{Entry, Handoff, Ran, RegionCode, Scheme};
 use net_share::StepEnd;
 use std::alloc::{AllocError, Global};
 
-/// The machine of an interval: one task, or tasks that share the iterations.
+/// The machine of an interval: one task, tasks that share the iterations, or tasks of the stages through which these go.
 #[derive(Drop)]
 pub enum Net<'a> {
     One(OneTask<'a>),
     Shared(SharedTasks<'a>),
+    Staged(StagedTasks<'a>),
 }
 
 impl<'a> Net<'a> {
-    /// The machine of an interval of an entry to the loop of this region, in a configuration that the entry offers: it begins where
-    /// the handoff stands, and grants up to `limit` iterations. An error comes where memory runs out.
+    /// The machine of an interval of an entry to the loop of this region, in a configuration that the entry offers, whose links hold a
+    /// message at least: it begins where the handoff stands, and grants up to `limit` iterations. An error comes where memory runs out.
     pub fn begin(
         alloc: Global,
         entry: &'a Entry,
         code: &'a RegionCode,
         handoff: Handoff,
-        config: Config,
+        setting: Setting,
         limit: u64,
     ) -> Result<Net<'a>, AllocError>
         requires entered { IsEntered entry.now }
-        requires served { RunsIn entry.now.looped entry.now.plan config.scheme }
-        requires offered { IsTrue (offers entry.now config.scheme) }
-        requires workers { IsConfig config }
+        requires served { RunsIn entry.now.looped entry.now.plan setting.config.scheme }
+        requires offered { IsTrue (offers entry.now setting.config.scheme) }
+        requires workers { IsConfig setting.config }
+        requires capacity { 1 ≤ setting.capacity }
         requires looped { code.now.looped ≡ entry.now.looped }
+        requires plan { code.now.plan ≡ entry.now.plan }
         requires state { IsHandoff entry.now handoff }
         requires room { limit ≤ int_gap handoff.next (last entry.now) }
-        ensures net { IfOk result (λ net. BeginsIn config.scheme config.workers entry.now handoff.next limit handoff.store (view_of net)) }
+        ensures net { IfOk result (λ net.
+            BeginsIn setting.config.scheme setting.config.workers setting.capacity entry.now handoff.next limit handoff.store (view_of net)) }
         ensures sound { IfOk result IsNet }
     {
-        match config.scheme {
+        match setting.config.scheme {
             Scheme::Seq => {
                 let task = OneTask::begin(entry, code.units(), handoff, limit)?;
                 Ok(Net::One(task))
             }
             Scheme::Any => {
-                let tasks = SharedTasks::begin(alloc, entry, code, handoff, config.workers, limit)?;
+                let tasks = SharedTasks::begin(
+                    alloc,
+                    entry,
+                    code,
+                    handoff,
+                    setting.config.workers,
+                    limit,
+                )?;
                 Ok(Net::Shared(tasks))
             }
-            Scheme::Pipe => unreachable!(),
+            Scheme::Pipe => {
+                let tasks = StagedTasks::begin(alloc, entry, code, handoff, setting, limit)?;
+                Ok(Net::Staged(tasks))
+            }
         }
     }
 
@@ -63,6 +79,7 @@ impl<'a> Net<'a> {
         match self {
             Net::One(_) => 1,
             Net::Shared(tasks) => tasks.tasks(),
+            Net::Staged(tasks) => tasks.tasks(),
         }
     }
 
@@ -74,6 +91,7 @@ impl<'a> Net<'a> {
         match self {
             Net::One(task) => task.is_finished(),
             Net::Shared(tasks) => tasks.is_over(),
+            Net::Staged(tasks) => tasks.is_over(),
         }
     }
 
@@ -86,11 +104,13 @@ impl<'a> Net<'a> {
         match self {
             Net::One(task) => task.pause(),
             Net::Shared(tasks) => tasks.pause(),
+            Net::Staged(tasks) => tasks.pause(),
         }
     }
 
-    /// Does one step of a task: a claim, or one unit, or nothing where it has finished. It takes constant time beside the unit. An error
-    /// comes where memory runs out, and the machine is then spent.
+    /// Does one step of a task: a claim, a receive, one unit, a send, or nothing where it has finished; or it waits. It takes constant
+    /// time beside the unit, the locals that a stage skips, and a packet. An error comes where memory runs out, and the machine is
+    /// then spent.
     fn step(&mut self, task: usize) -> Result<StepEnd, AllocError>
         requires sound { IsNet self.old }
         requires there { task < tasks_of (view_of self.old) }
@@ -106,6 +126,7 @@ impl<'a> Net<'a> {
                 Ok(StepEnd::Moved)
             }
             Net::Shared(tasks) => tasks.step(task),
+            Net::Staged(tasks) => tasks.step(task),
         }
     }
 
@@ -149,15 +170,17 @@ impl<'a> Net<'a> {
         Ok(())
     }
 
-    /// What the interval did, and the live state that it hands on, once all tasks have finished. The store is moved.
-    pub fn settle(self) -> (Handoff, Ran)
+    /// What the interval did, and the live state that it hands on, once all tasks have finished. The store is moved. An error comes
+    /// where memory runs out, which only numbers take that stages have printed.
+    pub fn settle(self) -> Result<(Handoff, Ran), AllocError>
         requires sound { IsNet self }
         requires over { is_over machine (view_of self) ≡ true }
-        ensures { EndsWith (view_of self.entry) result.1 result.0 }
+        ensures { IfOk result (λ r. EndsWith (view_of self.entry) r.1 r.0) }
     {
         match self {
-            Net::One(task) => task.finish(),
-            Net::Shared(tasks) => tasks.settle(),
+            Net::One(task) => Ok(task.finish()),
+            Net::Shared(tasks) => Ok(tasks.settle()),
+            Net::Staged(tasks) => tasks.settle(),
         }
     }
 }

@@ -14,6 +14,7 @@ ghost use Rattle.weave.specs.WeavePromise.{weave_promise, by_anyone};
 use crate::following::follow;
 use crate::net::Net;
 use crate::script::{Command, Script};
+use crate::setting::Setting;
 use morta_task::{
     Ask, Asker, Config, Entry, Handoff, Image, Interval, Morta, Ran, RegionCode, Runner,
 };
@@ -100,6 +101,7 @@ impl Weave {
         requires offered { IsTrue (offers entry.now config.scheme) }
         requires workers { IsConfig config }
         requires looped { code.now.looped ≡ entry.now.looped }
+        requires plan { code.now.plan ≡ entry.now.plan }
         requires state { IsHandoff entry.now handoff }
         requires room { limit ≤ int_gap handoff.next (last entry.now) }
         ensures done { IfOk result (λ r. IsDone entry.now config handoff.next limit r.1) }
@@ -109,10 +111,15 @@ impl Weave {
             ≡ record self.old { left = commands_left self.old.capacity config entry.now handoff.next limit self.old.left }) }
     {
         let alloc = *self.script.commands.allocator();
-        let mut net = Net::begin(alloc, entry, code, handoff, config, limit)?;
+        let setting = Setting {
+            config,
+            capacity: self.capacity,
+        };
+        let mut net = Net::begin(alloc, entry, code, handoff, setting, limit)?;
         self.at = follow(&self.script.commands, self.at, &mut net)?;
         net.run_out()?;
-        Ok(net.settle())
+        let done = net.settle()?;
+        Ok(done)
     }
 }
 

@@ -1,7 +1,7 @@
 use Rattle.std.proofs.Common.{sym, ◌∙◌, arith}
 use Rattle.std.proofs.lemmas.Bool.{eqb-true}
 use Rattle.morta_script.proofs.Walk.{told_line, told_end}
-use Rattle.morta_script.proofs.Ranges.{in_range, versions_named}
+use Rattle.morta_script.proofs.Ranges.{in_range}
 use Rattle.morta_script.proofs.reading.read_script.Goals as goal
 
 pub loop-rest-preserved : goal.loop-rest-preserved
@@ -15,11 +15,5 @@ loop-rest-preserved c =
 pub returns-clause-valid : goal.returns-clause-valid
 returns-clause-valid c =
     in_range c.args.text.now c.loop-rest.commands.items
-    (told_end c.loop-rest.commands.items _ c.loop-rest.number c.loop-rest.rest.now c.loop-rest.invariant.told
-    (eqb-true _ _ (sym c.is_empty.ensures ∙ c.loop-rest-test.false)))
-
-pub returns-clause-versions : goal.returns-clause-versions
-returns-clause-versions c = λ s.
-    versions_named c.args.text.now c.loop-rest.commands.items s
     (told_end c.loop-rest.commands.items _ c.loop-rest.number c.loop-rest.rest.now c.loop-rest.invariant.told
     (eqb-true _ _ (sym c.is_empty.ensures ∙ c.loop-rest-test.false)))

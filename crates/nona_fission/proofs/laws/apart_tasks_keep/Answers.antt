@@ -1,8 +1,11 @@
-use Rattle.nona_fission.proofs.Together.{cells_keep, scalars_keep, numbers_keep, silent, printed_keep, depth_keep, sizes_keep}
+use Rattle.nona_fission.proofs.Together.{cells_keep, copies_keep, scalars_keep, numbers_keep, silent, printed_keep, depth_keep, sizes_keep}
 use Rattle.nona_fission.proofs.laws.apart_tasks_keep.Goals as goal
 
 pub returns-clause-cells : goal.returns-clause-cells
 returns-clause-cells c = cells_keep
+
+pub returns-clause-copies : goal.returns-clause-copies
+returns-clause-copies c = copies_keep
 
 pub returns-clause-scalars : goal.returns-clause-scalars
 returns-clause-scalars c = scalars_keep

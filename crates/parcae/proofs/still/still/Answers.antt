@@ -23,8 +23,7 @@ returns-in-Ok-Some-Check-clause-answers g c =
 pub returns-in-Ok-Some-Replay-clause-answers : goal.returns-in-Ok-Some-Replay-clause-answers
 returns-in-Ok-Some-Replay-clause-answers g c =
     let told = rw (c.in-Ok-Some-Replay.field-0-is, c.in-Ok-Some-Replay.field-0-0-is) at c.in-Ok-Some-Replay.ensures in
-    let answers = rw c.as_str-in-Ok-Some-Replay.ensures.value at c.replay.ensures.answers in
-    rw told.meant answers
+    rw told.meant c.replay.ensures.answers
 
 -- the words are no command, and that line went out
 pub returns-in-Ok-None-clause-answers : goal.returns-in-Ok-None-clause-answers

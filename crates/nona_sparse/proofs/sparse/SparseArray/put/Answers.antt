@@ -16,7 +16,7 @@ returns-clause-ok c =
     let own : c.index_mut-page.result.now ≡ slice_index_or pages (place / PAGE) [] = get_or_read pages (place / PAGE) c.index_mut-page.result.now within c.index_mut-page.ensures.value [] in
     on_ok_weaker c.put.result
     (λ (put : at_page c.put.new.self ≡ with_at (place % PAGE) (to_z w64 (of_z w64 v)) (at_page c.index_mut-page.result.now)).
-    page_put pages place v c.put.new.self within
+    page_put PAGE pages place v c.put.new.self within
     (put ∙ (λ i. with_at (place % PAGE) (to_z-of_z w64 v c.ranges.value i) (at_page (own i))))
     ∙ ap (with_at place v) (c.add_pages.ensures.same ∙ ap at c.self.view_is))
     c.put.ensures.ok
@@ -29,5 +29,5 @@ returns-clause-err c =
     let own : c.index_mut-page.result.now ≡ slice_index_or pages (place / PAGE) [] = get_or_read pages (place / PAGE) c.index_mut-page.result.now within c.index_mut-page.ensures.value [] in
     on_err_weaker c.put.result
     (λ (same : at_page c.put.new.self ≡ at_page c.index_mut-page.result.now).
-    page_same pages (place / PAGE) c.put.new.self within (same ∙ ap at_page own) ∙ c.add_pages.ensures.same ∙ ap at c.self.view_is)
+    page_same PAGE pages (place / PAGE) c.put.new.self within (same ∙ ap at_page own) ∙ c.add_pages.ensures.same ∙ ap at c.self.view_is)
     c.put.ensures.err

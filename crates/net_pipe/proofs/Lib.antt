@@ -1,0 +1,7 @@
+mod Moves
+mod Asked
+mod Beginning
+mod Skipping
+mod Packets
+mod Stepping
+mod Gathering

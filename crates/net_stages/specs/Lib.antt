@@ -1,0 +1,4 @@
+pub mod Works
+pub mod Settled
+pub mod Entries
+pub mod Steps

@@ -1,0 +1,15 @@
+use Rattle.std.specs.Int.{w64}
+use Rattle.std.proofs.lemmas.Nat.{and_le_l}
+use Rattle.std.proofs.lemmas.Nat.Bits.{bit_at_clear_same, bit_at_clear_other}
+use Rattle.nona_sparse.proofs.Marking.{less_by}
+use Rattle.nona_sparse.proofs.block.without_mark.Goals as goal
+
+pub returns-clause-unmarked : goal.returns-clause-unmarked
+returns-clause-unmarked c = bit_at_clear_same w64 c.args.marks c.args.place c.requires.there
+
+pub returns-clause-others : goal.returns-clause-others
+returns-clause-others c = λ q within differs. bit_at_clear_other w64 c.args.marks c.args.place c.requires.there q within differs
+
+pub returns-clause-less : goal.returns-clause-less
+returns-clause-less c =
+    less_by _ c.args.marks c.args.place (and_le_l c.args.marks _) (bit_at_clear_same w64 c.args.marks c.args.place c.requires.there) c.requires.marked
