@@ -35,7 +35,8 @@ impl Counters {
         }
     }
 
-    /// Counts one move of a task, in constant time. The task has a number below `TASKS`, and fewer than `MOST` moves of it were counted.
+    /// Counts one move of a task, in constant time. The task has a number below `TASKS`, and fewer than `MOST` moves of
+    /// it were counted.
     #[tactic(auto, using(crate::proofs::Greatest::greatest_set))]
     pub fn moved(&mut self, task: u32)
         requires task { task < TASKS }
@@ -55,7 +56,8 @@ impl Counters {
         self.iterations += 1;
     }
 
-    /// What was counted so far, in constant time: the iterations, and as ticks the greatest count of moves of one task, at least 1.
+    /// What was counted so far, in constant time: the iterations, and as ticks the greatest count of moves of one task,
+    /// at least 1.
     pub fn reading(&self) -> Reading
         ensures iterations { result.iterations ≡ self.now.iterations }
         ensures ticks { result.ticks ≡ ticks_of self.now.moves }

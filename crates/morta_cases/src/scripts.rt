@@ -1,9 +1,8 @@
 //! The commands of scripts.
 
-use morta_script::read_script;
+use morta_script::{Command, read_script};
 use morta_task::Config;
 use std::test::Fail;
-use weave::Command;
 
 /// `use seq 1`, for so many iterations where that is said.
 fn one_thread(until: Option<u64>) -> Command {

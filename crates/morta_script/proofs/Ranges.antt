@@ -10,10 +10,10 @@ use Rattle.std.proofs.lemmas.List.Elements.{All-cons}
 use Rattle.nona_text.specs.Pieces.{lines_of}
 use Rattle.nona_text.specs.Digits.{number_within}
 use Rattle.nona_text.proofs.Numbers.{within}
-use Rattle.weave.specs.declared.script.Command.{Command}
-use Rattle.weave.specs.declared.script.Command.TheVariants.{Use, Step, Pause}
-use Rattle.weave.specs.Following.{IsUntil, IsCommand, AreCommands}
-use Rattle.weave.specs.declared.limits.TheConstants.{LAST_TASK, MOVES}
+use Rattle.morta_script.specs.declared.script.Command.{Command}
+use Rattle.morta_script.specs.declared.script.Command.TheVariants.{Use, Step, Pause}
+use Rattle.morta_script.specs.Commands.{IsUntil, IsCommand, AreCommands}
+use Rattle.morta_script.specs.declared.limits.TheConstants.{LAST_TASK, MOVES}
 use Rattle.morta_task.specs.declared.limits.TheConstants.{TURNS, WORKERS}
 use Rattle.morta_task.specs.declared.schemes.Config.{Config}
 use Rattle.morta_task.specs.declared.schemes.Scheme.{Scheme}

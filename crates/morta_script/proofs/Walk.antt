@@ -4,7 +4,7 @@ use Rattle.std.specs.declared.result.Result.{Result}
 use Rattle.std.proofs.lemmas.Bool.{ltb-true}
 use Rattle.std.proofs.lemmas.List.{append-nil, length_push, nil_from_length}
 use Rattle.nona_text.specs.Pieces.{lines_from}
-use Rattle.weave.specs.declared.script.Command.{Command}
+use Rattle.morta_script.specs.declared.script.Command.{Command}
 use Rattle.morta_script.specs.Lines.{Line, Nothing, Says, Wrong, words_of, line_by, command_bound, then_commands, with_room, with_line, commands_from}
 use Rattle.morta_script.specs.Turns.{with_kind}
 

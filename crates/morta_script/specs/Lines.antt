@@ -9,10 +9,10 @@ use Rattle.morta_task.specs.declared.limits.TheConstants.{TURNS, WORKERS}
 use Rattle.morta_task.specs.declared.schemes.Config.{Config}
 use Rattle.morta_task.specs.declared.schemes.Scheme.{Scheme}
 use Rattle.morta_task.specs.declared.schemes.Scheme.TheVariants.{Seq, Any, Pipe}
-use Rattle.weave.specs.declared.limits.TheConstants.{LAST_TASK, MOVES}
+use Rattle.morta_script.specs.declared.limits.TheConstants.{LAST_TASK, MOVES}
 use Rattle.morta_script.specs.declared.limits.TheConstants.{COMMANDS}
-use Rattle.weave.specs.declared.script.Command.{Command}
-use Rattle.weave.specs.declared.script.Command.TheVariants.{Use, Step, Pause}
+use Rattle.morta_script.specs.declared.script.Command.{Command}
+use Rattle.morta_script.specs.declared.script.Command.TheVariants.{Use, Step, Pause}
 
 -- what a line is: no command, a command, or a line that may not stand there
 pub data Line : Type 0 where

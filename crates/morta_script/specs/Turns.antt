@@ -3,7 +3,7 @@ use Rattle.std.specs.Prelude.{ℕ, false, List, [], ◌∷◌, ◌++◌, length,
 use Rattle.std.specs.declared.option.Option.{Option}
 use Rattle.std.specs.declared.result.Result.{Result}
 use Rattle.nona_text.specs.Pieces.{Piece, is_space, pieces_from}
-use Rattle.weave.specs.declared.script.Command.{Command}
+use Rattle.morta_script.specs.declared.script.Command.{Command}
 use Rattle.morta_script.specs.declared.line.Kind.{Kind}
 use Rattle.morta_script.specs.declared.line.Kind.TheVariants as kind
 use Rattle.morta_script.specs.Lines.{Line, Nothing, Says, Wrong, command_bound}

@@ -6,9 +6,10 @@ ghost use Rattle.morta_script.specs.Lines.{is_comment, config_with, config_of, u
 ghost use Rattle.morta_script.specs.Lines.{after_use, step_line, after_step, after_pause, line_named, line_by, words_of};
 ghost use Rattle.morta_script.specs.Turns.{words_from, said, meant};
 
+use crate::limits::{LAST_TASK, MOVES};
+use crate::script::Command;
 use morta_task::{Config, Scheme, TURNS, WORKERS};
 use nona_text::{first_word, number_within, without_cr};
-use weave::{Command, LAST_TASK, MOVES};
 
 /// What a line of a script is.
 #[derive(Clone, Copy, Debug)]

@@ -1,13 +1,13 @@
 ghost use Rattle.std.specs.Prelude.{◌≡◌, ◌≤◌, ◌^◌, ℕ, length, Ok, Err, IfOk, MatchResult};
-ghost use Rattle.weave.specs.Following.{AreCommands};
+ghost use Rattle.morta_script.specs.Commands.{AreCommands};
 ghost use Rattle.morta_script.specs.Lines.{commands_of, line_by, words_of};
 ghost use Rattle.morta_script.specs.Turns.{with_kind};
 
 use crate::limits::COMMANDS;
 use crate::line::{Kind, kind_of};
+use crate::script::{Command, Script};
 use nona_text::first_line;
 use std::alloc::{AllocFailed, Global};
-use weave::{Command, Script};
 
 /// Why the text of a script is refused.
 #[derive(Clone, Copy, Debug, PartialEq, Eq)]

@@ -5,7 +5,7 @@ use Rattle.std.proofs.lemmas.List.{at_drop_more}
 use Rattle.std.proofs.lemmas.List.Sums.{sum_by-cons}
 use Rattle.nona_tree.specs.Memory.{Memory}
 use Rattle.net_flow.specs.Net.{Task}
-use Rattle.net_stages.specs.Works.{Values}
+use Rattle.net_pipe.specs.Works.{Values}
 use Rattle.net_pipe.specs.Kept.{most_moves}
 use Rattle.net_pipe.specs.Tasks.{TaskView, task_over}
 

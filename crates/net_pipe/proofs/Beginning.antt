@@ -3,14 +3,14 @@ use Rattle.std.proofs.Common.{◌≡◌, ℕ, zero, suc, ◌+◌, ℤ, refl, sym
 use Rattle.std.proofs.lemmas.List.{append-nil, append_assoc, map-append}
 use Rattle.nona_store.proofs.Overlaying.{arrays_under_none}
 use Rattle.nona_num.specs.declared.folds.Fold.{Fold}
-use Rattle.nona_parts.specs.Sharing.{with_units}
-use Rattle.nona_parts.proofs.Begun.{units_arrays, units_printed}
+use Rattle.nona_fission.specs.Sharing.{with_units}
+use Rattle.nona_fission.proofs.Begun.{units_arrays, units_printed}
 use Rattle.nona_tree.specs.Memory.{Memory}
 use Rattle.net_flow.specs.Begun.{first_of, workers_of, tasks_of}
 use Rattle.net_flow.specs.Flow.{idle}
 use Rattle.net_flow.specs.Net.{Task, Message}
 use Rattle.net_flow.specs.Shapes.{Shape, tasks_in}
-use Rattle.net_stages.specs.Works.{Values}
+use Rattle.net_pipe.specs.Works.{Values}
 use Rattle.net_pipe.specs.Begun.{first_values}
 use Rattle.net_pipe.specs.Links.{LinkView}
 use Rattle.net_pipe.specs.Tasks.{TaskView, task_over, new_task, first_position, stand_of}
@@ -20,9 +20,9 @@ first_stand zero = refl
 first_stand (suc s) = refl
 
 -- a new task, as the net has it
-pub new_over : (rs : List (ℕ × Fold)) (m : Memory) (s w room : ℕ) (scalars : List ℤ) → scalars ≡ (with_units rs m).scalars
-    → task_over m (new_task s w scalars room) ≡ first_of (λ r v. first_values m rs) s w
-new_over rs m s w room scalars is = λ i. record {
+pub new_over : (rs : List (ℕ × Fold)) (m : Memory) (s w reserved room : ℕ) (scalars : List ℤ) → scalars ≡ (with_units rs m).scalars
+    → task_over m (new_task s w scalars reserved room) ≡ first_of (λ r v. first_values m rs) s w
+new_over rs m s w reserved room scalars is = λ i. record {
   stage = s;
   worker = w;
   position = first_stand s i;

@@ -13,7 +13,7 @@ use Rattle.net_share.specs.Begins.{AreThere, AreApart}
 use Rattle.net_share.specs.Gathered.{views_of, AreLeft, with_written, with_changes, own_scalar, joined_with, with_joined}
 use Rattle.net_share.specs.Settled.{settled_cell}
 use Rattle.net_share.proofs.Gathering.{changes_scalars, changes_printed, changes_many, changes_long, cells_settled, joined_arrays, joined_printed, joined_depth, joined_other, joined_there, joined_seen, left_written, left_joins}
-use Rattle.net_stages.specs.Settled.{printed_behind, IsSettledFromStages}
+use Rattle.net_pipe.specs.Settled.{printed_behind, IsSettledFromStages}
 use Rattle.net_pipe.specs.Gathered.{values_of, is_reduced, with_scalar, with_scalars, scalars_settled, all_printed, brought_together}
 use Rattle.net_pipe.specs.Tasks.{TaskView, share_of}
 

@@ -5,7 +5,7 @@ use Rattle.nona_tree.specs.Memory.{Memory}
 use Rattle.net_flow.specs.Flow.{Position, Claims, Unit_at, Sends, Receives, SendsEnd}
 use Rattle.net_flow.specs.Net.{Work, Task, Net, Message, Packet, End, no_task, task_at, link_at, link_now, enters, closes, leaves, takes_end, passes_end, with_task, with_link, is_granted, is_full, is_empty, waits_at, moved_at, after_receive, after_send}
 use Rattle.net_flow.specs.Shapes.{link_of}
-use Rattle.net_stages.specs.Works.{Values}
+use Rattle.net_pipe.specs.Works.{Values}
 use Rattle.net_pipe.specs.Links.{LinkView}
 use Rattle.net_pipe.specs.Tasks.{TaskView, task_over, counted, unit_done, sent_of}
 

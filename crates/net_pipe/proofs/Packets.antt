@@ -2,7 +2,7 @@
 use Rattle.std.proofs.Common.{◌≡◌, ◌<◌, ◌≤◌, ◌+◌, ℕ, zero, suc, Bool, if◌then◌else◌, refl, sym, ap, ◌∙◌, arith, ℤ, pos, List, [], ◌∷◌, length, drop, slice_index_or}
 use Rattle.std.proofs.Math.ListN.{drop_of_length-le}
 use Rattle.std.proofs.lemmas.Bool.{ne_eqb}
-use Rattle.net_stages.specs.Works.{value_for}
+use Rattle.net_pipe.specs.Works.{value_for}
 
 -- no id is left
 pub none_from : (ids : List ℕ) (values : List ℤ) (from id : ℕ) → length ids ≤ from → pos 0 ≡ value_for (drop from ids) (drop from values) id

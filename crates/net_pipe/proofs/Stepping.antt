@@ -4,14 +4,16 @@ use Rattle.std.proofs.Math.Nat.{mod-lt}
 use Rattle.std.proofs.lemmas.Bool.Decides.{nat_tests}
 use Rattle.std.proofs.lemmas.List.{length-map, get_or-map}
 use Rattle.net_flow.specs.Dealing.{next_link}
-use Rattle.net_flow.specs.Flow.{Position, Sends, Receives, SendsEnd, IsPositionOf}
+use Rattle.net_flow.specs.Flow.{Position, Claims, Unit_at, Sends, Receives, SendsEnd, IsPositionOf}
 use Rattle.net_flow.specs.Net.{Message, Packet, Net, Task, no_task, link_at, link_now, is_full}
 use Rattle.net_flow.specs.Shapes.{HasLink, link_of}
 use Rattle.net_flow.proofs.Numbering.{link_below}
-use Rattle.net_stages.specs.Steps.{CanStep}
-use Rattle.net_stages.specs.Works.{Values, shape_of}
+use Rattle.nona_store.specs.Shares.{shared}
+use Rattle.net_pipe.specs.Entries.{MayDo, MayStepAt}
+use Rattle.net_pipe.specs.Steps.{CanStep}
+use Rattle.net_pipe.specs.Works.{Values, shape_of}
 use Rattle.net_pipe.specs.declared.pipeline.Pipeline.{Pipeline}
-use Rattle.net_pipe.specs.Kept.{IsKept, net_of, task_of, work_of}
+use Rattle.net_pipe.specs.Kept.{IsKept, MayMove, net_of, task_of, work_of}
 use Rattle.net_pipe.specs.Links.{LinkView}
 use Rattle.net_pipe.specs.Staged.{staging_of}
 use Rattle.net_pipe.specs.Tasks.{TaskView, sent_of, task_over}
@@ -52,6 +54,22 @@ module _ (n : Pipeline) (t : ℕ) (there : t < length n.tasks.items) where
   pub in_read : (x : TaskView) (k e : ℕ) → get_or n.tasks.items t x ≡ x → k ≡ link_now (work_of n) (task_over n.store x) (x.done + e)
       → k ≡ link_now (work_of n) (task_of n t) ((task_of n t).done + e)
   in_read x k e is h = h ∙ ap (λ (y : Task Values). link_now (work_of n) y (y.done + e)) (sym (read x is))
+
+  -- where its next step may be done it has the scalars around the loop alone before a claim or a receive, and may do the unit before one
+  module _ (may : MayMove n t) (x : TaskView) (is : get_or n.tasks.items t x ≡ x) where
+    may_read : (p : Position) → (task_of n t).position ≡ p → MayStepAt (staging_of n.stages) x.stage p (shared n.store x.share)
+    may_read p at =
+        subst (λ (y : Task Values). MayStepAt (staging_of n.stages) y.stage p y.values.store) (read x is)
+        (subst (λ (q : Position). MayStepAt (staging_of n.stages) (task_of n t).stage q (task_of n t).values.store) at may.may)
+
+    pub around_claim : (task_of n t).position ≡ Claims → length x.share.scalars ≡ n.stages.depth
+    around_claim at = may_read Claims at
+
+    pub around_receive : (e : ℕ) → (task_of n t).position ≡ Receives e → length x.share.scalars ≡ n.stages.depth
+    around_receive e at = may_read (Receives e) at
+
+    pub may_do : (u : ℕ) → (task_of n t).position ≡ Unit_at u → MayDo (staging_of n.stages) x.stage u (shared n.store x.share)
+    may_do u at = may_read (Unit_at u) at
 
   -- the same of the task as it is read again
   pub stage_back : (f : ℕ → ℕ) (y : TaskView) (r : ℕ) → get_or n.tasks.items t y ≡ y → r ≡ f (task_of n t).stage → r ≡ f y.stage

@@ -1,11 +1,11 @@
 -- A pipeline before its first step.
 use Rattle.std.specs.Prelude.{ℕ, ℤ, List, []}
 use Rattle.nona_num.specs.declared.folds.Fold.{Fold}
-use Rattle.nona_parts.specs.Sharing.{with_units}
+use Rattle.nona_fission.specs.Sharing.{with_units}
 use Rattle.nona_tree.specs.Memory.{Memory}
 use Rattle.net_flow.specs.Begun.{begun_net}
 use Rattle.net_flow.specs.Net.{Net}
-use Rattle.net_stages.specs.Works.{Values, stages_work}
+use Rattle.net_pipe.specs.Works.{Values, stages_work}
 use Rattle.net_pipe.specs.declared.stages.Stages.{Stages}
 use Rattle.net_pipe.specs.Staged.{staging_of}
 

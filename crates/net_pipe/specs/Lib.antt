@@ -1,3 +1,7 @@
+pub mod Works
+pub mod Settled
+pub mod Entries
+pub mod Steps
 pub mod Links
 pub mod Tasks
 pub mod Staged

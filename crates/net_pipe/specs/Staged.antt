@@ -1,7 +1,7 @@
 -- The stages that iterations go through, as the machine has them.
 use Rattle.std.specs.Prelude.{ℕ, ◌+◌, ◌-◌, ◌*◌, ◌^◌, ◌≤◌, ◌<◌, length}
 use Rattle.nona_plans.specs.declared.limits.TheConstants.{CROSSING}
-use Rattle.net_stages.specs.Works.{Staging, stage_at, unit_number, sent_from}
+use Rattle.net_pipe.specs.Works.{Staging, stage_at, unit_number, sent_from}
 use Rattle.net_pipe.specs.declared.stages.Stages.{Stages}
 
 -- what these stages do
@@ -17,8 +17,8 @@ staging_of i = record {
   crossing = i.plan.now.crossing;
 }
 
--- There is a worker; the workers, the stages, the links and the units have numbers of 63 bits; each own unit is a unit of the body; and few locals cross from one stage to the
--- next.
+-- There is a worker; the workers, the stages, the links and the units have numbers of 63 bits; each own unit is a unit of the body;
+-- and few locals cross from one stage to the next.
 pub record IsStaged (g : Staging) : Type 0 where
   pub some_worker : 1 ≤ g.workers
   pub workers : g.workers < 2 ^ 63

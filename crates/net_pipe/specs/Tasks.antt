@@ -7,7 +7,7 @@ use Rattle.nona_store.specs.Shares.{ShareView, shared}
 use Rattle.net_flow.specs.Flow.{Position as Stand, Claims, Unit_at, Sends, Receives, SendsEnd, Finished}
 use Rattle.net_flow.specs.Net.{Work, Task, Message, Packet, arrives}
 use Rattle.nona_fission.specs.Fission.{skipped}
-use Rattle.net_stages.specs.Works.{Staging, Values, received_in, value_for}
+use Rattle.net_pipe.specs.Works.{Staging, Values, received_in, value_for}
 use Rattle.net_pipe.specs.declared.position.Position.{Position}
 use Rattle.net_pipe.specs.declared.position.Position.TheVariants as position
 
@@ -29,15 +29,15 @@ abbrev pub first_position : ℕ → Position
 first_position zero = position.Claims
 first_position (suc s) = position.Receives 0
 
--- a task with this stage and worker before its first step, with these scalars and so much room
-abbrev pub new_task : ℕ → ℕ → List ℤ → ℕ → TaskView
-new_task s w scalars room = record {
+-- a task with this stage and worker before its first step, with these scalars, room for so many of them, and a frame with so much room
+abbrev pub new_task : ℕ → ℕ → List ℤ → ℕ → ℕ → TaskView
+new_task s w scalars reserved room = record {
   stage = s;
   worker = w;
   position = first_position s;
   done = 0;
   iteration = 0;
-  share = record { scalars = scalars; written = unwritten; printed = [] };
+  share = record { scalars = scalars; written = unwritten; printed = []; room = reserved };
   held = [];
   moves = 0;
   room = room;
@@ -80,10 +80,11 @@ skipped_here locals (s ∷ rest) m = skipped locals s m
 abbrev pub skipped_first : Staging → ℕ → TaskView → Memory → Memory
 skipped_first g at x m = skipped_here (value_for (received_in g x.stage) x.held) (drop at g.body) m
 
--- A task has skipped units where that makes this of any store that it sees: nothing else of it changed.
+-- A task has skipped units where that makes this of any store that it sees: nothing else of it changed, and its room is the same.
 pub record HasSkipped (makes : Memory → Memory) (old new : TaskView) : Type 0 where
   pub rest : new ≡ record old { share = new.share }
   pub store : (m : Memory) → shared m new.share ≡ makes (shared m old.share)
+  pub reserved : new.share.room ≡ old.share.room
 
 -- its move is counted
 abbrev pub counted : Task Values → Task Values

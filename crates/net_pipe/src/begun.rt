@@ -4,7 +4,8 @@ ghost use Rattle.std.specs.Prelude.{◌≡◌, ◌<◌, ◌≤◌, ◌-◌, ◌*
 ghost use Rattle.net_flow.specs.Begun.{first_of, tasks_of, workers_of};
 ghost use Rattle.net_flow.specs.Shapes.{tasks_in};
 ghost use Rattle.net_share.specs.Begins.{AreThere};
-ghost use Rattle.net_stages.specs.Works.{shape_of};
+ghost use Rattle.net_share.specs.Tasks.{HasRoom};
+ghost use Rattle.net_pipe.specs.Works.{shape_of};
 ghost use Rattle.net_pipe.specs.Begun.{first_values};
 ghost use Rattle.net_pipe.specs.Links.{LinkView};
 ghost use Rattle.net_pipe.specs.Staged.{IsStaged, staging_of};
@@ -13,7 +14,7 @@ ghost use Rattle.net_pipe.specs.Tasks.{TaskView, task_over};
 use crate::link::Link;
 use crate::stages::Stages;
 use crate::task::Task;
-use net_share::first_scalars;
+use net_share::{first_scalars, room_for};
 use nona_num::Fold;
 use nona_store::Store;
 use std::alloc::{AllocError, Global};
@@ -30,8 +31,10 @@ fn first_task(
     requires { AreThere reductions.now store.now.scalars }
     ensures task { IfOk result (λ task. task_over store.now task ≡ first_of (λ s w. first_values store.now reductions.now) stage worker) }
     ensures room { IfOk result (λ task. stages.now.units.now.room ≤ task.room) }
+    ensures reserved { IfOk result (λ task. HasRoom stages.now.depth stages.now.units.now task.share) }
 {
-    let scalars = first_scalars(alloc, store, reductions)?;
+    let room = room_for(stages.depth, stages.units)?;
+    let scalars = first_scalars(alloc, room, store, reductions)?;
     let task = Task::begin(alloc, stage, worker, stages.units, scalars)?;
     Ok(task)
 }
@@ -61,9 +64,11 @@ fn add_tasks(
     requires stage { stage < length stages.now.plan.now.pipe }
     requires there { AreThere reductions.now store.now.scalars }
     requires room { All (λ (x : TaskView). stages.now.units.now.room ≤ x.room) tasks.old.items }
+    requires reserved { All (λ (x : TaskView). HasRoom stages.now.depth stages.now.units.now x.share) tasks.old.items }
     ensures tasks { OnOk result (map (task_over store.now) tasks.new.items ≡ map (task_over store.now) tasks.old.items
         ++ workers_of (λ s w. first_values store.now reductions.now) stage (tasks_in ((shape_of (staging_of stages.now)).parallel stage) stages.now.workers)) }
     ensures room { OnOk result (All (λ (x : TaskView). stages.now.units.now.room ≤ x.room) tasks.new.items) }
+    ensures reserved { OnOk result (All (λ (x : TaskView). HasRoom stages.now.depth stages.now.units.now x.share) tasks.new.items) }
 {
     'workers: for worker in 0..tasks_in(stages, stage) {
         tasks.push(first_task(alloc, stage, worker, stages, store, reductions)?)?;
@@ -83,6 +88,7 @@ pub(crate) fn first_tasks(
     ensures tasks { IfOk result (λ tasks. map (task_over store.now) tasks.items
         ≡ tasks_of (shape_of (staging_of stages.now)) (λ s w. first_values store.now reductions.now) (length stages.now.plan.now.pipe)) }
     ensures room { IfOk result (λ tasks. All (λ (x : TaskView). stages.now.units.now.room ≤ x.room) tasks.items) }
+    ensures reserved { IfOk result (λ tasks. All (λ (x : TaskView). HasRoom stages.now.depth stages.now.units.now x.share) tasks.items) }
 {
     let mut tasks = Vec::new(alloc);
     'stages: for stage in 0..stages.count() {

@@ -1,6 +1,6 @@
 //! The machine of a pipeline's tasks.
 
-ghost use Rattle.std.specs.Prelude.{◌≡◌, ◌<◌, ◌^◌, ◌+ℤ◌, true, false, ℕ, pos, FitsSigned, length, OnOk, IfOk};
+ghost use Rattle.std.specs.Prelude.{◌≡◌, ◌<◌, ◌^◌, ◌+ℤ◌, true, false, ℕ, pos, FitsSigned, length, OnOk, OnErr, IfOk};
 ghost use Rattle.std.specs.Bool.{OnTrue};
 ghost use Rattle.std.specs.Int.{w64};
 ghost use Rattle.net_flow.specs.Flow.{Claims, Unit_at, Sends, Receives, SendsEnd};
@@ -9,8 +9,9 @@ ghost use Rattle.net_flow.specs.Net.{step, moves_of, paused_net, is_finished, is
 ghost use Rattle.net_flow.specs.Shapes.{link_of};
 ghost use Rattle.net_share.specs.Begins.{AreThere, AreApart};
 ghost use Rattle.net_share.specs.Gathered.{views_of};
-ghost use Rattle.net_stages.specs.Settled.{IsSettledFromStages};
-ghost use Rattle.net_stages.specs.Works.{shape_of};
+ghost use Rattle.net_share.specs.May.{IsAtUnit};
+ghost use Rattle.net_pipe.specs.Settled.{IsSettledFromStages};
+ghost use Rattle.net_pipe.specs.Works.{shape_of};
 ghost use Rattle.net_pipe.specs.Begun.{first_net};
 ghost use Rattle.net_pipe.specs.Kept.{Acts, IsEnd, IsKept, MayMove, Stays, doing_of, most_moves, net_of, store_of, task_of, work_of};
 ghost use Rattle.net_pipe.specs.Staged.{IsStaged, staging_of};
@@ -93,23 +94,22 @@ impl<'a> Pipeline<'a> {
         !self.paused && self.granted < self.stages.limit
     }
 
-    /// Claims the next iteration for the head, which begins it; or the claim is refused.
-    fn claim(&mut self, task: usize) -> Result<(), AllocError>
+    /// Claims the next iteration for the head, which begins it; or the claim is refused. Takes no memory.
+    fn claim(&mut self, task: usize)
         requires there { task < length self.old.tasks.items }
         requires sound { IsKept self.old }
         requires claims { (task_of self.old task).position ≡ Claims }
         requires may { MayMove self.old task }
-        ensures acts { OnOk result (Acts self.old task (net_of self.new) true) }
-        ensures stays { OnOk result (Stays self.old self.new) }
+        ensures acts { Acts self.old task (net_of self.new) true }
+        ensures stays { Stays self.old self.new }
     {
         if !self.may_claim() {
             self.tasks[task].ends(&self.stages);
-            return Ok(());
+            return;
         }
         let number = self.granted;
         self.granted = number + 1;
-        self.tasks[task].begins(number, Packet::new(), &self.stages)?;
-        Ok(())
+        self.tasks[task].begins(number, Packet::new(), &self.stages);
     }
 
     /// Does the own unit with this number of the iteration that a task is in.
@@ -153,26 +153,26 @@ impl<'a> Pipeline<'a> {
     }
 
     /// Receives a packet or an End for a task that has received so many Ends, or waits where its link is empty. The answer is whether it
-    /// moved.
-    fn receive(&mut self, task: usize, ends: usize) -> Result<bool, AllocError>
+    /// moved. Takes no memory.
+    fn receive(&mut self, task: usize, ends: usize) -> bool
         requires there { task < length self.old.tasks.items }
         requires sound { IsKept self.old }
         requires receives { (task_of self.old task).position ≡ Receives ends }
         requires may { MayMove self.old task }
-        ensures acts { IfOk result (Acts self.old task (net_of self.new)) }
-        ensures stays { OnOk result (Stays self.old self.new) }
+        ensures acts { Acts self.old task (net_of self.new) result }
+        ensures stays { Stays self.old self.new }
     {
         let link = self.tasks[task].incoming(ends, &self.stages);
         let index = self.link_index(self.tasks[task].stage() - 1, link);
         match self.links[index].take() {
-            None => Ok(false),
+            None => false,
             Some(Message::Packet { iteration, values }) => {
-                self.tasks[task].begins(iteration, values, &self.stages)?;
-                Ok(true)
+                self.tasks[task].begins(iteration, values, &self.stages);
+                true
             }
             Some(Message::End) => {
                 self.tasks[task].takes_end(ends, &self.stages);
-                Ok(true)
+                true
             }
         }
     }
@@ -211,10 +211,11 @@ impl<'a> Pipeline<'a> {
         requires may { MayMove self.old task }
         ensures acts { IfOk result (Acts self.old task (net_of self.new)) }
         ensures stays { OnOk result (Stays self.old self.new) }
+        ensures err { OnErr result (IsAtUnit (task_of self.old task).position) }
     {
         match position {
             Position::Claims => {
-                self.claim(task)?;
+                self.claim(task);
                 Ok(true)
             }
             Position::Unit(unit) => {
@@ -222,15 +223,15 @@ impl<'a> Pipeline<'a> {
                 Ok(true)
             }
             Position::Sends => Ok(self.send(task)),
-            Position::Receives(ends) => self.receive(task, ends),
+            Position::Receives(ends) => Ok(self.receive(task, ends)),
             Position::SendsEnd(link) => Ok(self.send_end(task, link)),
             Position::Finished => Ok(true),
         }
     }
 
     /// Does one step of a task: a claim, a receive, one own unit, a send, or nothing where it has finished; or it waits. It takes constant
-    /// time beside the unit, the locals that it skips, and a packet, and no memory that these don't take. An error comes where memory
-    /// runs out, and the machine is then spent.
+    /// time beside the unit, the locals that it skips, and a packet, and no memory that the unit doesn't take. An error comes where memory
+    /// runs out in a unit, and the machine is then spent.
     pub fn step(&mut self, task: usize) -> Result<StepEnd, AllocError>
         requires there { task < length self.old.tasks.items }
         requires sound { IsKept self.old }
@@ -242,6 +243,7 @@ impl<'a> Pipeline<'a> {
             IsEnd end (is_finished x.position) (waits_at (work_of self.old) (net_of self.old) x x.position)) }
         ensures stays { OnOk result (Stays self.old self.new) }
         ensures sound { OnOk result (IsKept self.new) }
+        ensures err { OnErr result (IsAtUnit (task_of self.old task).position) }
     {
         let position = self.position(task);
         if position == Position::Finished {

@@ -5,7 +5,7 @@ ghost use Rattle.nona_tree.specs.Memory.{assign, scalar_at};
 ghost use Rattle.net_share.specs.Begins.{AreApart, AreThere};
 ghost use Rattle.net_share.specs.Gathered.{AreLeft, joined_with, views_of, with_joined, with_written};
 ghost use Rattle.net_share.specs.Settled.{settled_cell};
-ghost use Rattle.net_stages.specs.Settled.{IsSettledFromStages};
+ghost use Rattle.net_pipe.specs.Settled.{IsSettledFromStages};
 ghost use Rattle.net_pipe.specs.Gathered.{all_printed, brought_together, is_reduced, scalars_settled, values_of, with_scalar};
 ghost use Rattle.net_pipe.specs.Tasks.{share_of};
 

@@ -1,7 +1,7 @@
 //! The stages that iterations go through.
 
 ghost use Rattle.std.specs.Prelude.{◌≡◌, ◌<◌, length};
-ghost use Rattle.net_stages.specs.Works.{received_in, sent_from, shape_of, stage_at, unit_number};
+ghost use Rattle.net_pipe.specs.Works.{received_in, sent_from, shape_of, stage_at, unit_number};
 ghost use Rattle.net_pipe.specs.Staged.{IsStaged, staging_of};
 
 use nona_tree::{Plan, Stage};

@@ -1,6 +1,7 @@
 //! A task of a pipeline.
 
-ghost use Rattle.std.specs.Prelude.{◌≡◌, ◌<◌, ◌+◌, ◌-◌, ◌≤◌, ◌^◌, ◌+ℤ◌, ℕ, pos, drop, take, length, map, FitsSigned, IfOk, OnOk, List, ℤ};
+ghost use Rattle.std.specs.Prelude.{◌≡◌, ◌<◌, ◌+◌, ◌-◌, ◌≤◌, ◌^◌, ◌+ℤ◌, ℕ, ℤ, List};
+ghost use Rattle.std.specs.Prelude.{pos, drop, take, length, map, vec_capacity, FitsSigned, IfOk, OnOk};
 ghost use Rattle.std.specs.Int.{w64};
 ghost use Rattle.nona_plans.specs.declared.limits.TheConstants.{CROSSING};
 ghost use Rattle.nona_store.specs.Overlays.{changes_of, over_of};
@@ -10,8 +11,9 @@ ghost use Rattle.net_flow.specs.Net.{arrives, enters, leaves, closes, takes_end,
 ghost use Rattle.net_flow.specs.Dealing.{next_link};
 ghost use Rattle.net_flow.specs.Shapes.{first_link, links_of};
 ghost use Rattle.net_share.specs.Gathered.{own_scalar};
-ghost use Rattle.net_share.specs.May.{MayRunFirst};
-ghost use Rattle.net_stages.specs.Works.{received_in, shape_of, skips, stages_work, unit_number, value_for};
+ghost use Rattle.net_share.specs.Tasks.{HasRoom};
+ghost use Rattle.net_pipe.specs.Entries.{MayDo};
+ghost use Rattle.net_pipe.specs.Works.{received_in, shape_of, skips, stages_work, unit_number, value_for};
 ghost use Rattle.net_pipe.specs.Links.{message_view};
 ghost use Rattle.net_pipe.specs.Staged.{IsStaged, staging_of};
 
@@ -106,7 +108,7 @@ impl Task {
         units: &Units,
         scalars: Vec<i64>,
     ) -> Result<Task, AllocError>
-        ensures { IfOk result (λ task. task ≡ new_task stage worker scalars.items units.now.room) }
+        ensures { IfOk result (λ task. task ≡ new_task stage worker scalars.items (vec_capacity scalars) units.now.room) }
     {
         let frame = units.frame()?;
         Ok(Task {
@@ -217,29 +219,29 @@ impl Task {
     }
 
     /// Skips the unit with this number, from 0, which is another stage's: where it declares a local, the packet's value for it stands
-    /// there.
-    fn skip_one(&mut self, at: usize, stages: &Stages) -> Result<(), AllocError>
-        requires { at < length stages.now.units.now.body }
-        ensures { OnOk result (HasSkipped (skipped_first (staging_of stages.now) at self.old) self.old self.new) }
+    /// there. There is room for it. Takes no memory.
+    fn skip_one(&mut self, at: usize, stages: &Stages)
+        requires unit { at < length stages.now.units.now.body }
+        requires room { length self.old.share.scalars < self.old.share.room }
+        ensures { HasSkipped (skipped_first (staging_of stages.now) at self.old) self.old self.new }
     {
         if stages.units.declares(at) {
             let value = self.local(stages);
-            declare_on(value, &mut self.share)?;
+            declare_on(value, &mut self.share);
         }
-        Ok(())
     }
 
-    /// Skips the units from one number, from 0, up to another one.
-    #[tactic(auto, using(crate::proofs::Skipping::skips_begin, crate::proofs::Skipping::skips_more, crate::proofs::Skipping::skips_end))]
-    fn skip(&mut self, from: usize, to: usize, stages: &Stages) -> Result<(), AllocError>
-        requires { to ≤ length stages.now.units.now.body }
-        ensures { OnOk result (HasSkipped
-            (skips (staging_of stages.now) self.old.stage self.old.held (take (to - from) (drop from stages.now.units.now.body))) self.old self.new) }
+    /// Skips the units from one number, from 0, up to another one. There is room for a local of each. Takes no memory.
+    #[tactic(auto, using(crate::proofs::Skipping::skips_begin, crate::proofs::Skipping::skip_room, crate::proofs::Skipping::skips_end))]
+    fn skip(&mut self, from: usize, to: usize, stages: &Stages)
+        requires units { to ≤ length stages.now.units.now.body }
+        requires room { length self.old.share.scalars + (to - from) ≤ self.old.share.room }
+        ensures { HasSkipped
+            (skips (staging_of stages.now) self.old.stage self.old.held (take (to - from) (drop from stages.now.units.now.body))) self.old self.new }
     {
         'units: for at in from..to {
-            self.skip_one(at, stages)?;
+            self.skip_one(at, stages);
         }
-        Ok(())
     }
 
     /// Leaves its iteration: the scalars in it go.
@@ -247,6 +249,7 @@ impl Task {
         requires { self.old.done + 1 < 2 ^ 64 }
         ensures task { (m : Memory) → task_over m self.new ≡ leaves (stages_work (staging_of stages.now)) (task_over m self.old) }
         ensures room { self.new.room ≡ self.old.room }
+        ensures reserved { self.new.share.room ≡ self.old.share.room }
         ensures moves { self.new.moves ≡ self.old.moves }
     {
         leave_on(stages.depth, &mut self.share);
@@ -265,6 +268,7 @@ impl Task {
         requires done { self.old.done + 1 < 2 ^ 64 }
         ensures task { (m : Memory) → task_over m self.new ≡ arrives (stages_work (staging_of stages.now)) unit (task_over m self.old) }
         ensures room { self.new.room ≡ self.old.room }
+        ensures reserved { self.new.share.room ≡ self.old.share.room }
         ensures moves { self.new.moves ≡ self.old.moves }
     {
         if unit < stages.own_count(self.stage) {
@@ -276,25 +280,27 @@ impl Task {
         }
     }
 
-    /// Enters the iteration with this number and packet: its index is a new scalar.
-    fn enter(&mut self, number: u64, packet: Packet, stages: &Stages) -> Result<(), AllocError>
+    /// Enters the iteration with this number and packet: its index is a new scalar. Takes no memory.
+    fn enter(&mut self, number: u64, packet: Packet, stages: &Stages)
         requires staged { IsStaged (staging_of stages.now) }
         requires stage { self.old.stage < length stages.now.plan.now.pipe }
         requires done { self.old.done + 1 < 2 ^ 64 }
         requires fits { FitsSigned w64 (stages.now.from +ℤ pos number) }
-        ensures task { OnOk result ((m : Memory) → task_over m self.new
-            ≡ enters (stages_work (staging_of stages.now)) number packet.items (task_over m self.old)) }
-        ensures room { OnOk result (self.new.room ≡ self.old.room) }
-        ensures moves { OnOk result (self.new.moves ≡ self.old.moves) }
+        requires around { length self.old.share.scalars ≡ stages.now.depth }
+        requires reserved { HasRoom stages.now.depth stages.now.units.now self.old.share }
+        ensures task { (m : Memory) → task_over m self.new
+            ≡ enters (stages_work (staging_of stages.now)) number packet.items (task_over m self.old) }
+        ensures room { self.new.room ≡ self.old.room }
+        ensures reserved { self.new.share.room ≡ self.old.share.room }
+        ensures moves { self.new.moves ≡ self.old.moves }
     {
         let index = offset(stages.from, number);
-        declare_on(index, &mut self.share)?;
+        declare_on(index, &mut self.share);
         self.held = packet;
         self.iteration = number;
         let first = stages.unit_number(self.stage, 0);
-        self.skip(0, first - 1, stages)?;
+        self.skip(0, first - 1, stages);
         self.arrive(0, stages);
-        Ok(())
     }
 
     /// Does the own unit of its iteration with this number, skips those behind it, and comes before the next own one.
@@ -302,11 +308,12 @@ impl Task {
         requires staged { IsStaged (staging_of stages.now) }
         requires counts { CanCount (staging_of stages.now) stages.now.units.now.room self.old }
         requires there { unit < (shape_of (staging_of stages.now)).units self.old.stage }
-        requires may { MayRunFirst (drop (unit_number (staging_of stages.now) self.old.stage unit - 1) stages.now.units.now.body)
-            stages.now.turns (shared store.now self.old.share) }
+        requires may { MayDo (staging_of stages.now) self.old.stage unit (shared store.now self.old.share) }
+        requires reserved { HasRoom stages.now.depth stages.now.units.now self.old.share }
         ensures task { OnOk result (task_over store.now self.new
             ≡ unit_done (stages_work (staging_of stages.now)) unit (task_over store.now self.old)) }
         ensures room { OnOk result (self.new.room ≡ self.old.room) }
+        ensures reserved { OnOk result (self.new.share.room ≡ self.old.share.room) }
         ensures moves { OnOk result (self.new.moves ≡ self.old.moves) }
     {
         let number = stages.unit_number(self.stage, unit);
@@ -319,28 +326,25 @@ impl Task {
             &mut self.share,
         )?;
         let next = stages.unit_number(self.stage, unit + 1);
-        self.skip(number, next - 1, stages)?;
+        self.skip(number, next - 1, stages);
         self.arrive(unit + 1, stages);
         Ok(())
     }
 
-    /// Begins the iteration with this number and packet: one move.
-    pub(crate) fn begins(
-        &mut self,
-        number: u64,
-        packet: Packet,
-        stages: &Stages,
-    ) -> Result<(), AllocError>
+    /// Begins the iteration with this number and packet: one move. Takes no memory.
+    pub(crate) fn begins(&mut self, number: u64, packet: Packet, stages: &Stages)
         requires staged { IsStaged (staging_of stages.now) }
         requires counts { CanCount (staging_of stages.now) stages.now.units.now.room self.old }
         requires fits { FitsSigned w64 (stages.now.from +ℤ pos number) }
-        ensures task { OnOk result ((m : Memory) → task_over m self.new
-            ≡ counted (enters (stages_work (staging_of stages.now)) number packet.items (task_over m self.old))) }
-        ensures room { OnOk result (self.new.room ≡ self.old.room) }
+        requires around { length self.old.share.scalars ≡ stages.now.depth }
+        requires reserved { HasRoom stages.now.depth stages.now.units.now self.old.share }
+        ensures task { (m : Memory) → task_over m self.new
+            ≡ counted (enters (stages_work (staging_of stages.now)) number packet.items (task_over m self.old)) }
+        ensures room { self.new.room ≡ self.old.room }
+        ensures reserved { self.new.share.room ≡ self.old.share.room }
     {
-        self.enter(number, packet, stages)?;
+        self.enter(number, packet, stages);
         self.moves += 1;
-        Ok(())
     }
 
     /// Does the own unit of its iteration with this number: one move.
@@ -353,11 +357,12 @@ impl Task {
         requires staged { IsStaged (staging_of stages.now) }
         requires counts { CanCount (staging_of stages.now) stages.now.units.now.room self.old }
         requires there { unit < (shape_of (staging_of stages.now)).units self.old.stage }
-        requires may { MayRunFirst (drop (unit_number (staging_of stages.now) self.old.stage unit - 1) stages.now.units.now.body)
-            stages.now.turns (shared store.now self.old.share) }
+        requires may { MayDo (staging_of stages.now) self.old.stage unit (shared store.now self.old.share) }
+        requires reserved { HasRoom stages.now.depth stages.now.units.now self.old.share }
         ensures task { OnOk result (task_over store.now self.new
             ≡ counted (unit_done (stages_work (staging_of stages.now)) unit (task_over store.now self.old))) }
         ensures room { OnOk result (self.new.room ≡ self.old.room) }
+        ensures reserved { OnOk result (self.new.share.room ≡ self.old.share.room) }
     {
         self.do_unit(unit, stages, store)?;
         self.moves += 1;
@@ -369,6 +374,7 @@ impl Task {
         requires { CanCount (staging_of stages.now) stages.now.units.now.room self.old }
         ensures task { (m : Memory) → task_over m self.new ≡ counted (leaves (stages_work (staging_of stages.now)) (task_over m self.old)) }
         ensures room { self.new.room ≡ self.old.room }
+        ensures reserved { self.new.share.room ≡ self.old.share.room }
     {
         self.leave(stages);
         self.moves += 1;
@@ -380,6 +386,7 @@ impl Task {
         requires stage { self.old.stage < length stages.now.plan.now.pipe }
         ensures task { (m : Memory) → task_over m self.new ≡ closes (stages_work (staging_of stages.now)) (task_over m self.old) }
         ensures room { self.new.room ≡ self.old.room }
+        ensures reserved { self.new.share.room ≡ self.old.share.room }
         ensures moves { self.new.moves ≡ self.old.moves }
     {
         self.position = if self.stage + 1 < stages.count() {
@@ -399,6 +406,7 @@ impl Task {
         requires counts { CanCount (staging_of stages.now) stages.now.units.now.room self.old }
         ensures task { (m : Memory) → task_over m self.new ≡ counted (closes (stages_work (staging_of stages.now)) (task_over m self.old)) }
         ensures room { self.new.room ≡ self.old.room }
+        ensures reserved { self.new.share.room ≡ self.old.share.room }
     {
         self.close(stages);
         self.moves += 1;
@@ -423,6 +431,7 @@ impl Task {
         requires few { ends < stages.now.workers }
         ensures task { (m : Memory) → task_over m self.new ≡ takes_end (stages_work (staging_of stages.now)) ends (task_over m self.old) }
         ensures room { self.new.room ≡ self.old.room }
+        ensures reserved { self.new.share.room ≡ self.old.share.room }
         ensures moves { self.new.moves ≡ self.old.moves }
     {
         if ends + 1 < self.links(stages) {
@@ -440,6 +449,7 @@ impl Task {
         ensures task { (m : Memory) → task_over m self.new
             ≡ counted (takes_end (stages_work (staging_of stages.now)) ends (task_over m self.old)) }
         ensures room { self.new.room ≡ self.old.room }
+        ensures reserved { self.new.share.room ≡ self.old.share.room }
     {
         self.take_end(ends, stages);
         self.moves += 1;
@@ -468,6 +478,7 @@ impl Task {
         requires few { link < stages.now.workers }
         ensures task { (m : Memory) → task_over m self.new ≡ passes_end (stages_work (staging_of stages.now)) link (task_over m self.old) }
         ensures room { self.new.room ≡ self.old.room }
+        ensures reserved { self.new.share.room ≡ self.old.share.room }
         ensures moves { self.new.moves ≡ self.old.moves }
     {
         self.position = if link + 1 < self.links_end(stages) {
@@ -486,6 +497,7 @@ impl Task {
         ensures task { (m : Memory) → task_over m self.new
             ≡ counted (passes_end (stages_work (staging_of stages.now)) link (task_over m self.old)) }
         ensures room { self.new.room ≡ self.old.room }
+        ensures reserved { self.new.share.room ≡ self.old.share.room }
     {
         self.send_end(link, stages);
         self.moves += 1;

@@ -3,8 +3,8 @@ use Rattle.std.proofs.Common.{◌≡◌, ℕ, zero, suc, ◌+◌, ℤ, false, re
 use Rattle.std.proofs.lemmas.List.{append-nil, map-append, length-append, length-map}
 use Rattle.nona_store.proofs.Overlaying.{arrays_under_none}
 use Rattle.nona_num.specs.declared.folds.Fold.{Fold}
-use Rattle.nona_parts.specs.Sharing.{with_units}
-use Rattle.nona_parts.proofs.Begun.{units_arrays, units_printed}
+use Rattle.nona_fission.specs.Sharing.{with_units}
+use Rattle.nona_fission.proofs.Begun.{units_arrays, units_printed}
 use Rattle.nona_tree.specs.Memory.{Memory}
 use Rattle.net_flow.specs.Begun.{first_of, workers_of, begun_net}
 use Rattle.net_flow.specs.Flow.{Claims}
@@ -17,9 +17,9 @@ use Rattle.net_share.specs.Tasks.{TaskView, task_over, new_task}
 use Rattle.net_share.specs.Works.{sharing_work}
 
 -- a new task, as the net has it
-pub new_over : (rs : List (ℕ × Fold)) (m : Memory) (number room : ℕ) (scalars : List ℤ) → scalars ≡ (with_units rs m).scalars
-    → task_over m (new_task number scalars room) ≡ first_of (λ s w. with_units rs m) 0 number
-new_over rs m number room scalars is = λ i. record {
+pub new_over : (rs : List (ℕ × Fold)) (m : Memory) (number reserved room : ℕ) (scalars : List ℤ) → scalars ≡ (with_units rs m).scalars
+    → task_over m (new_task number scalars reserved room) ≡ first_of (λ s w. with_units rs m) 0 number
+new_over rs m number reserved room scalars is = λ i. record {
   stage = 0;
   worker = number;
   position = Claims;

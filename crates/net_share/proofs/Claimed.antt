@@ -2,8 +2,8 @@
 use Rattle.std.proofs.Common.{◌≡◌, ℕ, zero, suc, ◌+◌, ◌<◌, ◌≤◌, ◌==◌, Bool, true, false, List, [], ◌∷◌, ◌++◌, length, get_or, refl, sym, ap, ◌∙◌, subst, arith, if◌then◌else◌, ⊎_elim, append-nil}
 use Rattle.std.proofs.lemmas.Bool.{cases_eq}
 use Rattle.net_flow.specs.Sharing.{claimed_by}
-use Rattle.nona_parts.specs.Sharing.{owned_below}
-use Rattle.nona_parts.proofs.Untied.{same_number}
+use Rattle.nona_fission.specs.Sharing.{owned_below}
+use Rattle.nona_fission.proofs.Untied.{same_number}
 
 -- the task that claimed an iteration, where these tasks claimed the first ones, the last one first, and this one claims all others
 abbrev pub owner_or : ℕ → List ℕ → ℕ → ℕ

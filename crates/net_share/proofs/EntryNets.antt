@@ -13,7 +13,7 @@ use Rattle.net_share.specs.Entries.{MayShare, IsWithin, IsEntryNet, begun_in, do
 use Rattle.net_share.specs.Kept.{no_meaning}
 use Rattle.net_share.specs.May.{MayStep, MayStepAt}
 use Rattle.net_share.proofs.Keeping.{any_work}
-use Rattle.net_share.proofs.SharedOut.{body_written, depth_behind, done_behind}
+use Rattle.net_share.proofs.SharedOut.{body_written, depth_behind, depth_between, done_behind}
 use Rattle.net_share.proofs.UnitsLeft.{entered, may_run, unit_within, iteration_left}
 
 -- what a task computes keeps what its store means
@@ -46,7 +46,7 @@ module _ (e : Entry) (first limit W : ℕ) (net : Net Memory (Unit {0})) (here :
     pauses = sharing_pauses Memory (Unit {0}) (work_in e first W) (meaning_in e first) refl limit W law net here
 
     may_at : (t : ℕ) (x : Task Memory) (p : Position) → HoldsShared (work_in e first W) (meaning_in e first) limit t here.claimants p x → MayStepAt (doing_in e first) p x.values
-    may_at t x Claims held = tt
+    may_at t x Claims held = depth_between e first (claimed_by here.claimants t) x.values held
     may_at t x (Unit_at u) held =
         let w : IsWithin e first (claimed_by held.before t) (length held.before) u x.values = held.values in
         may_run e first (claimed_by held.before t) (length held.before) u x.values w (done_behind e first limit t held.before h held.below w.begun w.ready) held.inner

@@ -3,17 +3,17 @@ use Rattle.std.proofs.Common.{◌≡◌, ◌≢◌, ◌⊎◌, inl, inr, ⊎_eli
 use Rattle.std.specs.Prelude.{Contains}
 use Rattle.std.specs.Option.{unwrap_or}
 use Rattle.std.specs.Ordering.{int_eq}
-use Rattle.std.proofs.lemmas.Bool.Decides.{nat_tests}
+use Rattle.std.proofs.lemmas.Bool.Decides.{nat_tests, Decides-int_eq}
 use Rattle.std.proofs.lemmas.Cmp.{int_eq_equiv}
-use Rattle.std.proofs.lemmas.List.{length-set, get_or_past, get_or-set_same, get_or-set_other, at_drop_more}
+use Rattle.std.proofs.lemmas.List.{ext_get_or, length-set, get_or_past, get_or-set_same, get_or-set_other, at_drop_more}
 use Rattle.nona_num.specs.declared.folds.Fold.{Fold}
 use Rattle.nona_num.specs.Folds.{join_of}
 use Rattle.nona_store.specs.Shares.{ShareView}
-use Rattle.nona_store.specs.Overlays.{over_of, under, changes_of}
+use Rattle.nona_store.specs.Overlays.{over_of, under, arrays_under, changes_of}
 use Rattle.nona_store.proofs.Overlaying.{covered, as_long, as_many}
 use Rattle.nona_tree.specs.Memory.{Memory, scalar_at, cells_of, cell_at, assign}
 use Rattle.net_share.specs.Begins.{AreThere, AreApart}
-use Rattle.net_share.specs.Gathered.{views_of, AreLeft, with_written, with_changes, own_scalar, joined_with, with_joined, gathered}
+use Rattle.net_share.specs.Gathered.{views_of, AreLeft, AreLeftBehind, with_written, with_changes, own_scalar, joined_with, with_joined, gathered}
 use Rattle.net_share.specs.Settled.{settled_cell, joined_all, IsSettledFrom}
 
 -- a number ties with itself
@@ -54,6 +54,31 @@ below_or_past : (p n : ℕ) → (p < n) ⊎ (n ≤ p)
 below_or_past p zero = inr (omega arith)
 below_or_past zero (suc n) = inl (omega arith)
 below_or_past (suc p) (suc n) = ⊎_elim (λ (h : p < n). inl (omega (arith, h))) (λ (h : n ≤ p). inr (omega (arith, h))) (below_or_past p n)
+
+-- of a value and what it was, the value
+value_or_was : (v was : ℤ) → (if int_eq v was then was else v) ≡ v
+value_or_was v was = by_test (int_eq v was) (Decides-int_eq v was).0 where
+  by_test : (b : Bool) → (b ≡ true → v ≡ was) → (if b then was else v) ≡ v
+  by_test true is = sym (is refl)
+  by_test false is = refl
+
+-- to write over cells what they have already changes nothing
+pub unchanged_under : (m : Memory) (over : ℕ → ℕ → Option ℤ) → under (changes_of m over) m ≡ under over m
+unchanged_under m over = λ i. record m { arrays = same i } where
+  left : ℕ → ℕ → Option ℤ
+  left = changes_of m over
+
+  same_cell : (a p : ℕ) → p < length (cells_of m a) → cell_at (under left m) a p ≡ cell_at (under over m) a p
+  same_cell a p within =
+      let was = cell_at m a p in
+      covered m left a p within ∙ one_change m a p was (over a p) within ∙ value_or_was (unwrap_or (over a p) was) was ∙ sym (covered m over a p within)
+
+  same : arrays_under left 0 m.arrays ≡ arrays_under over 0 m.arrays
+  same =
+      ext_get_or [] (arrays_under left 0 m.arrays) (arrays_under over 0 m.arrays) (as_many left 0 m.arrays ∙ sym (as_many over 0 m.arrays))
+      (λ a there.
+      ext_get_or (pos 0) (cells_of (under left m) a) (cells_of (under over m) a) (as_long m left a ∙ sym (as_long m over a))
+      (λ p within. same_cell a p (subst (λ n. p < n) (as_long m left a) within)))
 
 -- tasks, each with its share of a store
 module _ {T : Type 0} (share : T → ShareView) where
@@ -256,13 +281,73 @@ module _ {T : Type 0} (share : T → ShareView) where
       left_joins was (assign r.0 (joined_with share r.0 r.1 (scalar_at m r.0) left) m) rest tasks left h
       ∙ ap (λ (v : ℤ). with_joined share rest tasks (assign r.0 v m)) (left_joined was r.0 r.1 (scalar_at m r.0) tasks left h)
 
+  -- the first task is as it was, and so many tasks without one behind it have only what isn't in the store already
+  abbrev pub AreLeftBehindBelow : ℕ → Memory → List T → List T → Type 0
+  AreLeftBehindBelow zero m xs ys = ⊥
+  AreLeftBehindBelow (suc n) m [] [] = Unit {0}
+  AreLeftBehindBelow (suc n) m [] (y ∷ ys) = ⊥
+  AreLeftBehindBelow (suc n) m (x ∷ xs) [] = ⊥
+  AreLeftBehindBelow (suc n) m (x ∷ xs) (y ∷ ys) = (y ≡ x) × AreLeftBelow n m xs ys
+
+  pub behind_begins : (m : Memory) (xs : List T) → AreLeftBehindBelow 1 m xs xs
+  behind_begins m [] = tt
+  behind_begins m (x ∷ xs) = (refl, refl)
+
+  -- with one more
+  next_behind : (n : ℕ) (m : Memory) (xs ys : List T) (x y : T) → n < length ys → get_or ys n x ≡ x → (share y).scalars ≡ (share x).scalars → (share y).printed ≡ (share x).printed
+      → over_of (share y).written ≡ changes_of m (over_of (share x).written) → AreLeftBehindBelow n m xs ys → AreLeftBehindBelow (suc n) m xs (set ys n y)
+  next_behind zero m xs ys x y below is same prints written h = absurd h
+  next_behind (suc n) m [] [] x y below is same prints written h = absurd (omega (arith, below))
+  next_behind (suc n) m [] (z ∷ ys) x y below is same prints written h = absurd h
+  next_behind (suc n) m (w ∷ xs) [] x y below is same prints written h = absurd h
+  next_behind (suc n) m (w ∷ xs) (z ∷ ys) x y below is same prints written h =
+      (h.0, next_left n m xs ys x y (omega (arith, below)) is same prints written h.1)
+
+  pub behind_on : (n : ℕ) (m : Memory) (xs ys : List T) (x y : T) → n < length ys → get_or ys n x ≡ x → (share y).scalars ≡ (share x).scalars → (share y).printed ≡ (share x).printed
+      → over_of (share y).written ≡ changes_of m (over_of (share x).written) → AreLeftBehindBelow n m xs ys → AreLeftBehindBelow (n + 1) m xs (set ys n y)
+  behind_on n m xs ys x y below is same prints written h =
+      subst (λ (k : ℕ). AreLeftBehindBelow k m xs (set ys n y)) (let e : suc n ≡ n + 1 = omega arith in e) (next_behind n m xs ys x y below is same prints written h)
+
+  -- and all of them
+  pub all_behind : (n : ℕ) (m : Memory) (xs ys : List T) → length ys ≤ n → AreLeftBehindBelow n m xs ys → AreLeftBehind share m xs ys
+  all_behind zero m xs ys past h = absurd h
+  all_behind (suc n) m [] [] past h = tt
+  all_behind (suc n) m [] (y ∷ ys) past h = absurd h
+  all_behind (suc n) m (x ∷ xs) [] past h = absurd h
+  all_behind (suc n) m (x ∷ xs) (y ∷ ys) past h = (h.0, all_left n m xs ys (omega (arith, past)) h.1)
+
+  -- what is left then, written into the store, is what the tasks have changed, since what the first one wrote of the store's own changes nothing
+  behind_written : (m : Memory) (tasks left : List T) → AreLeftBehind share m tasks left → with_written share left m ≡ with_changes share m tasks m
+  behind_written m [] [] h = refl
+  behind_written m [] (y ∷ ys) h = absurd h
+  behind_written m (x ∷ xs) [] h = absurd h
+  behind_written m (x ∷ xs) (y ∷ ys) h =
+      left_written m (under (over_of (share y).written) m) xs ys h.1
+      ∙ ap (λ (t : T). with_changes share m xs (under (over_of (share t).written) m)) h.0
+      ∙ ap (with_changes share m xs) (sym (unchanged_under m (over_of (share x).written)))
+
+  -- and their scalars are joined as before
+  behind_joined : (was : Memory) (id : ℕ) (f : Fold) (now : ℤ) (tasks left : List T) → AreLeftBehind share was tasks left → joined_with share id f now left ≡ joined_with share id f now tasks
+  behind_joined was id f now [] [] h = refl
+  behind_joined was id f now [] (y ∷ ys) h = absurd h
+  behind_joined was id f now (x ∷ xs) [] h = absurd h
+  behind_joined was id f now (x ∷ xs) (y ∷ ys) h =
+      left_joined was id f (join_of f now (own_scalar id (share y))) xs ys h.1
+      ∙ ap (λ (t : T). joined_with share id f (join_of f now (own_scalar id (share t))) xs) h.0
+
+  behind_joins : (was m : Memory) (rs : List (ℕ × Fold)) (tasks left : List T) → AreLeftBehind share was tasks left → with_joined share rs left m ≡ with_joined share rs tasks m
+  behind_joins was m [] tasks left h = refl
+  behind_joins was m (r ∷ rest) tasks left h =
+      behind_joins was (assign r.0 (joined_with share r.0 r.1 (scalar_at m r.0) left) m) rest tasks left h
+      ∙ ap (λ (v : ℤ). with_joined share rest tasks (assign r.0 v m)) (behind_joined was r.0 r.1 (scalar_at m r.0) tasks left h)
+
   -- so the scalar of each reduction is still there, and the store is gathered
-  pub still_there : (rs : List (ℕ × Fold)) (m : Memory) (tasks left : List T) → AreLeft share m tasks left → AreThere rs m.scalars
+  pub still_there : (rs : List (ℕ × Fold)) (m : Memory) (tasks left : List T) → AreLeftBehind share m tasks left → AreThere rs m.scalars
       → AreThere rs (with_written share left m).scalars
   still_there rs m tasks left h there =
-      subst (AreThere rs) (sym (ap (λ (s : Memory). s.scalars) (left_written m m tasks left h) ∙ changes_scalars m m tasks)) there
+      subst (AreThere rs) (sym (ap (λ (s : Memory). s.scalars) (behind_written m tasks left h) ∙ changes_scalars m m tasks)) there
 
-  pub left_gathered : (rs : List (ℕ × Fold)) (m : Memory) (tasks left : List T) → AreLeft share m tasks left
+  pub left_gathered : (rs : List (ℕ × Fold)) (m : Memory) (tasks left : List T) → AreLeftBehind share m tasks left
       → with_joined share rs left (with_written share left m) ≡ gathered share rs tasks m
   left_gathered rs m tasks left h =
-      ap (with_joined share rs left) (left_written m m tasks left h) ∙ left_joins m (with_changes share m tasks m) rs tasks left h
+      ap (with_joined share rs left) (behind_written m tasks left h) ∙ behind_joins m (with_changes share m tasks m) rs tasks left h

@@ -14,7 +14,7 @@ use Rattle.net_share.specs.declared.sharing.Sharing.{Sharing}
 use Rattle.net_share.specs.declared.task.Position.{Position as Place}
 use Rattle.net_share.specs.declared.task.Position.TheVariants as place
 use Rattle.net_share.specs.Kept.{no_meaning, doing_of, work_of, net_of, task_of, most_moves, IsSharing, Stays}
-use Rattle.net_share.specs.Tasks.{TaskView, stand_of, task_over}
+use Rattle.net_share.specs.Tasks.{TaskView, HasRoom, stand_of, task_over}
 use Rattle.net_share.specs.Works.{Doing, doing, sharing_work}
 
 -- where nothing is said of values, any work keeps it
@@ -53,6 +53,9 @@ module _ (old new : Sharing) (here : IsSharing old) (s : Stays old new) where
   pub stands : IsSharedNet (work_of old) no_meaning old.iterations.limit (length old.tasks.items) (net_of new) → IsSharing new
   stands net = record {
     room = subst (λ (i : Iterations). All (λ (x : TaskView). i.units.now.room ≤ x.room) new.tasks.items) (sym s.iterations) s.room;
+    reserved =
+        subst (λ (d : ℕ). All (λ (x : TaskView). HasRoom d new.iterations.units.now x.share) new.tasks.items) (sym s.depth)
+        (subst (λ (i : Iterations). All (λ (x : TaskView). HasRoom old.depth i.units.now x.share) new.tasks.items) (sym s.iterations) s.reserved);
     fits = subst (λ (i : Iterations). (k : ℕ) → k < i.limit → FitsSigned w64 (i.from +ℤ pos k)) (sym s.iterations) here.fits;
     few =
         subst (λ (c : ℕ). new.iterations.limit * (1 + length new.iterations.units.now.body) + (1 + c) < 2 ^ 64) (sym s.count)

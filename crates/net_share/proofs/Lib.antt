@@ -1,4 +1,4 @@
-mod UnitRuns
+pub mod UnitRuns
 mod Moves
 pub mod Keeping
 mod Beginning

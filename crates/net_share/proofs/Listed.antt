@@ -10,7 +10,7 @@ use Rattle.nona_num.specs.declared.folds.Fold.{Fold}
 use Rattle.nona_tree.specs.declared.trees.Loop.{Loop}
 use Rattle.nona_plans.specs.Mentions.{reduction_of}
 use Rattle.nona_plans.specs.Units.{with_fold, reductions_below, reductions_of}
-use Rattle.nona_parts.proofs.Untied.{reduction_below}
+use Rattle.nona_fission.proofs.Untied.{reduction_below}
 
 last_listed : (l : Loop) (f : Fold) (n id : ℕ) (o : Option Fold) → reduction_of l n ≡ o → Contains (with_fold n o) (id, f) → reduction_of l id ≡ Some f
 last_listed l f n id None e (k, within, is) = absurd (omega (arith, within))

@@ -12,7 +12,7 @@ use Rattle.nona_tree.specs.Entries.{Entry, after}
 use Rattle.nona_tree.specs.Memory.{Memory, scalar_at, cell_at}
 use Rattle.nona_tree.specs.Run.{Ran, done}
 use Rattle.nona_plans.specs.Units.{reductions_of}
-use Rattle.nona_parts.specs.Sharing.{Sharing, MayBeShared, IsSettled, store_before, turns_over, task_run, writes_cell, partial_of, joined_with}
+use Rattle.nona_fission.specs.Sharing.{Sharing, MayBeShared, IsSettled, store_before, turns_over, task_run, writes_cell, partial_of, joined_with}
 use Rattle.nona_fission.specs.Fission.{whole_of}
 use Rattle.nona_fission.proofs.Left.{thread_ends}
 use Rattle.nona_fission.proofs.Whole.{whole_may, written_once, cells_keep, settled_is_behind}

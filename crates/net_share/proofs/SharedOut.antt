@@ -7,11 +7,12 @@ use Rattle.nona_tree.specs.Entries.{Entry, after}
 use Rattle.nona_tree.specs.Memory.{Memory, declare}
 use Rattle.nona_tree.specs.Numbers.{IsI64, AreI64, AreI64Stmts}
 use Rattle.nona_tree.specs.Run.{Ran, done, then_do}
+use Rattle.nona_tree.proofs.Depth.{SameDepth, all_turn_depth, turns_depth}
 use Rattle.nona_tree.proofs.I64.{statements_numbers}
-use Rattle.nona_tree.proofs.Keeps.{SameArrays, arrays_kept, kept_then, all_kept, turns_kept}
+use Rattle.nona_tree.proofs.Keeps.{IsPreorder, SameArrays, arrays_kept, kept_then, all_kept, turns_kept}
 use Rattle.nona_plans.specs.Units.{reductions_of}
-use Rattle.nona_parts.specs.Sharing.{Sharing, MayBeShared, index_of, iteration, turns_over, task_run}
-use Rattle.nona_parts.proofs.Begun.{units_arrays}
+use Rattle.nona_fission.specs.Sharing.{Sharing, MayBeShared, index_of, iteration, turns_over, task_run}
+use Rattle.nona_fission.proofs.Begun.{units_arrays, units_depth}
 use Rattle.nona_fission.specs.Fission.{whole_of}
 use Rattle.nona_fission.proofs.Thread.{before_begins, index_number}
 use Rattle.nona_fission.proofs.Whole.{whole_may, goes_on, task_done, numbers_keep, depth_keep}
@@ -46,6 +47,24 @@ turns_keep e first [] m = refl
 turns_keep e first (k ∷ ks) m =
     kept_then SameArrays arrays_kept.order m (iteration e first k m) (turns_over e first ks)
     (all_kept SameArrays arrays_kept e.looped.body e.turns (declare (index_of e first k) m)) (λ r. turns_keep e first ks r)
+
+-- as many scalars stand
+
+pub depths : IsPreorder SameDepth
+depths = record { same = λ m. refl; chain = λ a b c h g. g ∙ h }
+
+turns_depths : (e : Entry) (first : ℕ) (ks : List ℕ) (m : Memory) → SameDepth m (turns_over e first ks m).store
+turns_depths e first [] m = refl
+turns_depths e first (k ∷ ks) m =
+    kept_then SameDepth depths m (iteration e first k m) (turns_over e first ks)
+    (all_turn_depth e.looped.body e.turns (index_of e first k) m) (λ r. turns_depths e first ks r)
+
+pub begun_depth : (e : Entry) (first : ℕ) → length (begun_in e first).scalars ≡ length e.store.scalars
+begun_depth e first = units_depth (reductions_of e.looped) (after e first).store ∙ turns_depth e.looped.body e.turns e.low first e.store
+
+pub depth_between : (e : Entry) (first : ℕ) (ks : List ℕ) (m : Memory) → turns_over e first ks (begun_in e first) ≡ done m → length m.scalars ≡ length e.store.scalars
+depth_between e first ks m ready =
+    sym (ap (λ (r : Ran). length r.store.scalars) ready) ∙ turns_depths e first ks (begun_in e first) ∙ begun_depth e first
 
 -- the numbers that are written in the body
 pub body_written : (e : Entry) (first limit : ℕ) → MayShare e first limit → AreI64Stmts e.looped.body

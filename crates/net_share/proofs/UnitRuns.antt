@@ -1,5 +1,5 @@
 -- A task's share has what a unit that may run needs.
-use Rattle.std.proofs.Common.{◌≡◌, ℕ, ap, subst, refl, List, [], ◌∷◌, drop, Some}
+use Rattle.std.proofs.Common.{◌≡◌, ◌≤◌, ◌+◌, ℕ, Bool, true, false, if◌then◌else◌, ap, subst, refl, arith, List, [], ◌∷◌, drop, length, Some}
 use Rattle.std.specs.List.{AllByRecursion}
 use Rattle.nona_code.specs.SoundView.{SoundView}
 use Rattle.nona_code.specs.Stands.{on_cells}
@@ -9,36 +9,57 @@ use Rattle.nona_store.specs.Shares.{all_beside}
 use Rattle.nona_tree.specs.declared.trees.Stmt.{Stmt}
 use Rattle.nona_tree.specs.Deeds.{Deed, reads, sets, folds, loads, stores, joins, prints, deeds}
 use Rattle.nona_tree.specs.Memory.{Memory}
+use Rattle.nona_tree.specs.Scope.{is_let, depth_after}
+use Rattle.nona_tree.proofs.Depth.{depth_where_done}
 use Rattle.nona_units.specs.Units.{IsUnitAt}
 use Rattle.nona_units.specs.UnitsView.{UnitsView}
 use Rattle.net_share.specs.May.{MayRun, MayRunFirst}
+use Rattle.net_share.specs.Works.{run_first}
 
 -- a share allows each deed
-deeds_allowed : (base : Memory) (ds : List Deed) → AllByRecursion (Allows (all_beside base)) (on_cells ds)
-deeds_allowed base [] = tt
-deeds_allowed base (reads id ∷ ds) = deeds_allowed base ds
-deeds_allowed base (sets id ∷ ds) = deeds_allowed base ds
-deeds_allowed base (folds f id ∷ ds) = deeds_allowed base ds
-deeds_allowed base (loads a p ∷ ds) = (refl, deeds_allowed base ds)
-deeds_allowed base (stores a p ∷ ds) = (refl, deeds_allowed base ds)
-deeds_allowed base (joins f a p ∷ ds) = ((refl, refl), deeds_allowed base ds)
-deeds_allowed base (prints ∷ ds) = (refl, deeds_allowed base ds)
+deeds_allowed : (base : Memory) (reserved : ℕ) (ds : List Deed) → AllByRecursion (Allows (all_beside base reserved)) (on_cells ds)
+deeds_allowed base reserved [] = tt
+deeds_allowed base reserved (reads id ∷ ds) = deeds_allowed base reserved ds
+deeds_allowed base reserved (sets id ∷ ds) = deeds_allowed base reserved ds
+deeds_allowed base reserved (folds f id ∷ ds) = deeds_allowed base reserved ds
+deeds_allowed base reserved (loads a p ∷ ds) = (refl, deeds_allowed base reserved ds)
+deeds_allowed base reserved (stores a p ∷ ds) = (refl, deeds_allowed base reserved ds)
+deeds_allowed base reserved (joins f a p ∷ ds) = ((refl, refl), deeds_allowed base reserved ds)
+deeds_allowed base reserved (prints ∷ ds) = (refl, deeds_allowed base reserved ds)
 
--- where the limits are the same, so is the store beside which a share stands
-pub same_base : (a b : Memory) → all_beside a ≡ all_beside b → a ≡ b
-same_base a b same = let e : Some a ≡ Some b = ap (λ (l : Limits). l.base) same in cc
+-- where the limits are the same, so is the store beside which a share stands, and its room
+pub same_base : (a b : Memory) (r q : ℕ) → all_beside a r ≡ all_beside b q → a ≡ b
+same_base a b r q same = let e : Some a ≡ Some b = ap (λ (l : Limits). l.base) same in cc
 
-module _ (code : SoundView) (units : UnitsView) (at n : ℕ) (base m : Memory) (is : IsUnitAt code units at) (may : MayRunFirst (drop at units.body) n m) where
+pub same_reserved : (a b : Memory) (r q : ℕ) → all_beside a r ≡ all_beside b q → r ≡ q
+same_reserved a b r q same = ap (λ (l : Limits). l.reserved) same
+
+-- a unit that may run declares one scalar at most
+if_more : (b : Bool) (depth : ℕ) → (if b then depth + 1 else depth) ≤ depth + 1
+if_more true depth = omega arith
+if_more false depth = omega arith
+
+pub one_more : (s : Stmt) (depth : ℕ) → depth_after s depth ≤ depth + 1
+one_more s depth = if_more (is_let s) depth
+
+first_grows : (ss : List Stmt) (n : ℕ) (m : Memory) → MayRunFirst ss n m → length (run_first ss n m).store.scalars ≤ length m.scalars + 1
+first_grows [] n m may = omega arith
+first_grows (s ∷ rest) n m may = let after = depth_where_done s n m may.ends in let few = one_more s (length m.scalars) in omega (arith, after, few)
+
+pub grows_once : (ss : List Stmt) (n : ℕ) (m new : Memory) → MayRunFirst ss n m → new ≡ (run_first ss n m).store → length new.scalars ≤ length m.scalars + 1
+grows_once ss n m new may is = let few = first_grows ss n m may in let same = ap (λ (r : Memory). length r.scalars) is in omega (arith, few, same)
+
+module _ (code : SoundView) (units : UnitsView) (at n : ℕ) (base m : Memory) (reserved : ℕ) (is : IsUnitAt code units at) (may : MayRunFirst (drop at units.body) n m) where
   may_here : MayRun is.statement n m
   may_here = subst (λ (ss : List Stmt). MayRunFirst ss n m) is.here may
 
   -- the share has what the unit's code needs
-  pub may_unit : IsUnit code m (all_beside base) n
+  pub may_unit : IsUnit code m (all_beside base reserved) n
   may_unit = record {
     statement = is.statement;
     stands = is.stands;
     scoped = may_here.scoped;
     fits = may_here.fits;
-    allowed = deeds_allowed base (deeds is.statement n m);
+    allowed = deeds_allowed base reserved (deeds is.statement n m);
     room = tt;
   }

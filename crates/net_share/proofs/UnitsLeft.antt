@@ -13,8 +13,8 @@ use Rattle.nona_tree.proofs.Depth.{depth_where_done, was_done}
 use Rattle.nona_tree.proofs.Equations.{scoped_body}
 use Rattle.nona_tree.proofs.I64.{run_fits}
 use Rattle.nona_tree.proofs.Keeps.{SameArrays, arrays_kept, run_kept}
-use Rattle.nona_parts.specs.Sharing.{index_of, iteration, turns_over}
-use Rattle.nona_parts.proofs.Tasks.{declare_numbers}
+use Rattle.nona_fission.specs.Sharing.{index_of, iteration, turns_over}
+use Rattle.nona_fission.proofs.Tasks.{declare_numbers}
 use Rattle.nona_fission.proofs.Whole.{goes_on}
 use Rattle.net_flow.specs.Sharing.{claimed_by}
 use Rattle.net_share.specs.Entries.{MayShare, IsWithin, begun_in}

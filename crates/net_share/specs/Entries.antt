@@ -12,7 +12,7 @@ use Rattle.nona_forms.specs.Guards.{guard_of}
 use Rattle.nona_forms.specs.Separate.{IsLoopEntry}
 use Rattle.nona_plans.specs.Mentions.{prints}
 use Rattle.nona_plans.specs.Units.{ties_of, reductions_of}
-use Rattle.nona_parts.specs.Sharing.{index_of, turns_over, with_units}
+use Rattle.nona_fission.specs.Sharing.{index_of, turns_over, with_units}
 use Rattle.net_flow.specs.Begun.{begun_net}
 use Rattle.net_flow.specs.Net.{Work, Net}
 use Rattle.net_flow.specs.Sharing.{SharedMeaning, IsSharedNet}

@@ -19,6 +19,13 @@ AreLeft share m (x ∷ xs) (y ∷ ys) =
     ((share y).scalars ≡ (share x).scalars) × ((share y).printed ≡ (share x).printed)
     × (over_of (share y).written ≡ changes_of m (over_of (share x).written)) × AreLeft share m xs ys
 
+-- the second tasks begin with the first one of the first, and those behind it have only what isn't in the store already
+abbrev pub AreLeftBehind : {T : Type 0} → (T → ShareView) → Memory → List T → List T → Type 0
+AreLeftBehind share m [] [] = Unit {0}
+AreLeftBehind share m [] (y ∷ ys) = ⊥
+AreLeftBehind share m (x ∷ xs) [] = ⊥
+AreLeftBehind share m (x ∷ xs) (y ∷ ys) = (y ≡ x) × AreLeft share m xs ys
+
 -- a store with what each of these tasks has written, one task after another
 abbrev pub with_written : {T : Type 0} → (T → ShareView) → List T → Memory → Memory
 with_written share [] m = m

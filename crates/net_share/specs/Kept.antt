@@ -3,7 +3,7 @@ use Rattle.std.specs.Prelude.{◌≡◌, ℕ, ◌+◌, ◌*◌, ◌<◌, ◌≤�
 use Rattle.std.specs.Int.{w64}
 use Rattle.nona_num.specs.declared.folds.Fold.{Fold}
 use Rattle.nona_tree.specs.Memory.{Memory}
-use Rattle.nona_parts.specs.Sharing.{with_units}
+use Rattle.nona_fission.specs.Sharing.{with_units}
 use Rattle.net_flow.specs.Begun.{begun_net}
 use Rattle.net_flow.specs.Net.{Work, Task, Net, task_at}
 use Rattle.net_flow.specs.Sharing.{SharedMeaning, IsSharedNet}
@@ -12,7 +12,7 @@ use Rattle.net_share.specs.declared.sharing.Sharing.{Sharing}
 use Rattle.net_share.specs.declared.sharing.StepEnd.{StepEnd}
 use Rattle.net_share.specs.declared.sharing.StepEnd.TheVariants as step_end
 use Rattle.net_share.specs.May.{MayStep}
-use Rattle.net_share.specs.Tasks.{TaskView, task_over}
+use Rattle.net_share.specs.Tasks.{TaskView, HasRoom, task_over}
 use Rattle.net_share.specs.Works.{Doing, doing, sharing_work}
 
 -- what its tasks do
@@ -54,21 +54,24 @@ MayMove n t = MayStep (doing_of n) (task_of n t)
 abbrev pub no_meaning : SharedMeaning Memory
 no_meaning = record { between = λ t numbers m. Unit {0}; within = λ t numbers k u m. Unit {0} }
 
--- What stands of it at each step: the frames have room for each unit; the index of each iteration is a number of 64 bits; so is
--- the count of all moves, with one more; and its net stands.
+-- What stands of it at each step: the frames have room for each unit, and the tasks for the scalars of an iteration; the index of each
+-- iteration is a number of 64 bits; so is the count of all moves, with one more; and its net stands.
 pub record IsSharing (n : Sharing) : Type 0 where
   pub room : All (λ (x : TaskView). n.iterations.units.now.room ≤ x.room) n.tasks.items
+  pub reserved : All (λ (x : TaskView). HasRoom n.depth n.iterations.units.now x.share) n.tasks.items
   pub fits : (k : ℕ) → k < n.iterations.limit → FitsSigned w64 (n.iterations.from +ℤ pos k)
   pub few : n.iterations.limit * (1 + length n.iterations.units.now.body) + (1 + length n.tasks.items) < 2 ^ 64
   pub net : IsSharedNet (work_of n) no_meaning n.iterations.limit (length n.tasks.items) (net_of n)
 
--- what no step changes: the iterations, the scalars around the loop, the store, how many tasks there are, and their frames' room
+-- what no step changes: the iterations, the scalars around the loop, the store, how many tasks there are, the room of their frames, and
+-- that for scalars
 pub record Stays (old new : Sharing) : Type 0 where
   pub iterations : new.iterations ≡ old.iterations
   pub depth : new.depth ≡ old.depth
   pub store : new.store ≡ old.store
   pub count : length new.tasks.items ≡ length old.tasks.items
   pub room : All (λ (x : TaskView). old.iterations.units.now.room ≤ x.room) new.tasks.items
+  pub reserved : All (λ (x : TaskView). HasRoom old.depth old.iterations.units.now x.share) new.tasks.items
 
 -- a step says that the task had finished before, or else that it moved
 abbrev pub IsEnd : StepEnd → Bool → Type 0

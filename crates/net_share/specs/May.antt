@@ -21,14 +21,24 @@ abbrev pub MayRunFirst : List Stmt → ℕ → Memory → Type 0
 MayRunFirst [] n m = Unit {0}
 MayRunFirst (s ∷ rest) n m = MayRun s n m
 
--- the next step of a task that has this position and sees this store can't fail: where it is before a unit, this one may run
+-- the next step of a task that has this position and sees this store can't fail: where it is before a claim, it has the scalars
+-- around the loop alone; and where it is before a unit, this one may run
 abbrev pub MayStepAt : Doing → Position → Memory → Type 0
-MayStepAt does Claims m = Unit {0}
+MayStepAt does Claims m = length m.scalars ≡ does.depth
 MayStepAt does (Unit_at u) m = MayRunFirst (drop u does.body) does.turns m
 MayStepAt does Sends m = Unit {0}
 MayStepAt does (Receives e) m = Unit {0}
 MayStepAt does (SendsEnd l) m = Unit {0}
 MayStepAt does Finished m = Unit {0}
+
+-- a task with this position is before a unit
+abbrev pub IsAtUnit : Position → Type 0
+IsAtUnit Claims = ⊥
+IsAtUnit (Unit_at u) = Unit {0}
+IsAtUnit Sends = ⊥
+IsAtUnit (Receives e) = ⊥
+IsAtUnit (SendsEnd l) = ⊥
+IsAtUnit Finished = ⊥
 
 -- the next step of a task can't fail
 abbrev pub MayStep : Doing → Task Memory → Type 0

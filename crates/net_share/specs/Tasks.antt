@@ -1,5 +1,5 @@
 -- A task that shares the iterations of an interval, as contracts see it.
-use Rattle.std.specs.Prelude.{ℕ, ◌+◌, ◌<◌, ◌≤◌, ◌^◌, ℤ, List, []}
+use Rattle.std.specs.Prelude.{ℕ, ◌+◌, ◌<◌, ◌≤◌, ◌^◌, ℤ, List, [], length}
 use Rattle.nona_tree.specs.Memory.{Memory}
 use Rattle.nona_store.specs.Overlays.{unwritten}
 use Rattle.nona_store.specs.Shares.{ShareView, shared}
@@ -24,14 +24,14 @@ pub record TaskView : Type 0 where
 abbrev pub share_of : TaskView → ShareView
 share_of x = x.share
 
--- a task with this number before its first step, with these scalars and so much room
-abbrev pub new_task : ℕ → List ℤ → ℕ → TaskView
-new_task number scalars room = record {
+-- a task with this number before its first step, with these scalars, room for so many of them, and a frame with so much room
+abbrev pub new_task : ℕ → List ℤ → ℕ → ℕ → TaskView
+new_task number scalars reserved room = record {
   number = number;
   position = position.Claims;
   done = 0;
   iteration = 0;
-  share = record { scalars = scalars; written = unwritten; printed = [] };
+  share = record { scalars = scalars; written = unwritten; printed = []; room = reserved };
   moves = 0;
   room = room;
 }
@@ -41,6 +41,10 @@ abbrev pub stand_of : Position → Stand
 stand_of position.Claims = Claims
 stand_of (position.Unit u) = Unit_at u
 stand_of position.Finished = Finished
+
+-- it has room for the scalars around the loop, the index of an iteration, and a scalar for each of these units
+abbrev pub HasRoom : ℕ → UnitsView → ShareView → Type 0
+HasRoom depth units share = depth + 1 + length units.body ≤ share.room
 
 -- the task of the net that it is, over this store
 abbrev pub task_over : Memory → TaskView → Task Memory

@@ -16,7 +16,7 @@ mod shares;
 mod sharing;
 mod task;
 
-pub use begun::first_scalars;
+pub use begun::{first_scalars, room_for};
 pub use iterations::Iterations;
 pub use laws::{reductions_stand, sharing_begins, sharing_goes_on, sharing_settles};
 pub use shares::{declare_on, leave_on, run_on};

@@ -3,19 +3,20 @@
 ghost use Rattle.std.specs.Prelude.{◌≡◌, ◌<◌, length};
 ghost use Rattle.nona_tree.specs.Memory.{assign, scalar_at};
 ghost use Rattle.net_share.specs.Begins.{AreThere};
-ghost use Rattle.net_share.specs.Gathered.{AreLeft, gathered, joined_with, with_joined, with_written};
+ghost use Rattle.net_share.specs.Gathered.{AreLeftBehind, gathered, joined_with, with_joined, with_written};
 ghost use Rattle.net_share.specs.Tasks.{share_of};
 
 use crate::task::Task;
 use nona_num::Fold;
 use nona_store::Store;
 
-/// Forgets what tasks have written and the store has already. Nothing else of them changes.
-#[tactic(auto, using(crate::proofs::Gathering::left_on, crate::proofs::Gathering::all_left))]
+/// Forgets what tasks behind the first one have written and the store has already. Nothing else of them changes. What the
+/// first one has written goes into the store before all else, so that it may stay.
+#[tactic(auto, using(crate::proofs::Gathering::behind_begins, crate::proofs::Gathering::behind_on, crate::proofs::Gathering::all_behind))]
 fn keep_changes(store: &Store, tasks: &mut Vec<Task>)
-    ensures { AreLeft share_of store.now tasks.old.items tasks.new.items }
+    ensures { AreLeftBehind share_of store.now tasks.old.items tasks.new.items }
 {
-    'tasks: for number in 0..tasks.len() {
+    'tasks: for number in 1..tasks.len() {
         tasks[number].keep_changes(store);
     }
 }

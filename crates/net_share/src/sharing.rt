@@ -1,6 +1,6 @@
 //! The machine of tasks that share the iterations of an interval.
 
-ghost use Rattle.std.specs.Prelude.{◌≡◌, ◌<◌, ◌+◌, ◌*◌, ◌^◌, ◌+ℤ◌, true, ℕ, pos, FitsSigned, get_or, length, OnOk, IfOk};
+ghost use Rattle.std.specs.Prelude.{◌≡◌, ◌<◌, ◌+◌, ◌*◌, ◌^◌, ◌+ℤ◌, true, ℕ, pos, FitsSigned, get_or, length, OnOk, OnErr, IfOk};
 ghost use Rattle.std.specs.Int.{w64};
 ghost use Rattle.net_flow.specs.Flow.{Claims, Unit_at};
 ghost use Rattle.net_flow.specs.Net.{step, moved_at, paused_net, is_finished, is_granted, moves_of, net_machine};
@@ -8,6 +8,7 @@ ghost use Rattle.net_flow.specs.Machines.{is_over};
 ghost use Rattle.net_share.specs.Begins.{AreApart, AreThere};
 ghost use Rattle.net_share.specs.Gathered.{views_of};
 ghost use Rattle.net_share.specs.Kept.{IsEnd, IsSharing, MayMove, Stays, doing_of, first_net, most_moves, net_of, store_of, task_of, work_of};
+ghost use Rattle.net_share.specs.May.{IsAtUnit};
 ghost use Rattle.net_share.specs.Settled.{IsSettledFrom};
 ghost use Rattle.net_share.specs.Works.{doing};
 ghost use Rattle.net_share.specs.Tasks.{CanCount, TaskView, share_of, stand_of};
@@ -94,22 +95,22 @@ impl<'a> Sharing<'a> {
         !self.paused && self.granted < self.iterations.limit
     }
 
-    /// Claims the next iteration for a task, which begins it; or the claim is refused, and the task finishes.
-    fn claim(&mut self, task: usize) -> Result<(), AllocError>
+    /// Claims the next iteration for a task, which begins it; or the claim is refused, and the task finishes. Takes no memory.
+    fn claim(&mut self, task: usize)
         requires there { task < length self.old.tasks.items }
         requires sound { IsSharing self.old }
         requires claims { (task_of self.old task).position ≡ Claims }
         requires counts { (d : TaskView) → CanCount self.old.iterations.units.now (get_or self.old.tasks.items task d) }
-        ensures net { OnOk result (net_of self.new ≡ moved_at (work_of self.old) (net_of self.old) task (task_of self.old task) Claims) }
-        ensures stays { OnOk result (Stays self.old self.new) }
+        requires may { MayMove self.old task }
+        ensures net { net_of self.new ≡ moved_at (work_of self.old) (net_of self.old) task (task_of self.old task) Claims }
+        ensures stays { Stays self.old self.new }
     {
         if !self.may_claim() {
             self.tasks[task].finishes();
-            return Ok(());
+            return;
         }
-        self.tasks[task].begins(self.granted, &self.iterations, self.depth)?;
+        self.tasks[task].begins(self.granted, &self.iterations, self.depth);
         self.granted += 1;
-        Ok(())
     }
 
     /// Does the unit with this number of the iteration that a task is in.
@@ -135,7 +136,7 @@ impl<'a> Sharing<'a> {
     }
 
     /// Does one step of a task: a claim, or one unit, or nothing where it has finished. It takes constant time beside the unit, and no
-    /// memory that the unit doesn't take. An error comes where memory runs out, and the machine is then spent.
+    /// memory that the unit doesn't take. An error comes where memory runs out in a unit, and the machine is then spent.
     pub fn step(&mut self, task: usize) -> Result<StepEnd, AllocError>
         requires there { task < length self.old.tasks.items }
         requires sound { IsSharing self.old }
@@ -144,10 +145,11 @@ impl<'a> Sharing<'a> {
         ensures end { IfOk result (λ end. IsEnd end (is_finished (task_of self.old task).position)) }
         ensures stays { OnOk result (Stays self.old self.new) }
         ensures sound { OnOk result (IsSharing self.new) }
+        ensures err { OnErr result (IsAtUnit (task_of self.old task).position) }
     {
         match self.position(task) {
             Position::Claims => {
-                self.claim(task)?;
+                self.claim(task);
                 Ok(StepEnd::Moved)
             }
             Position::Unit(unit) => {

@@ -1,6 +1,6 @@
 //! A task that shares the iterations of an interval.
 
-ghost use Rattle.std.specs.Prelude.{◌≡◌, ◌<◌, ◌+◌, ◌≤◌, ◌^◌, ◌+ℤ◌, ℕ, pos, drop, length, FitsSigned, IfOk, OnOk};
+ghost use Rattle.std.specs.Prelude.{◌≡◌, ◌<◌, ◌+◌, ◌≤◌, ◌^◌, ◌+ℤ◌, ℕ, pos, drop, length, vec_capacity, FitsSigned, IfOk, OnOk};
 ghost use Rattle.std.specs.Int.{w64};
 ghost use Rattle.nona_store.specs.Overlays.{changes_of, over_of};
 ghost use Rattle.nona_store.specs.Shares.{shared};
@@ -71,7 +71,7 @@ impl Task {
         units: &Units,
         scalars: Vec<i64>,
     ) -> Result<Task, AllocError>
-        ensures { IfOk result (λ task. task ≡ new_task number scalars.items units.now.room) }
+        ensures { IfOk result (λ task. task ≡ new_task number scalars.items (vec_capacity scalars) units.now.room) }
     {
         let frame = units.frame()?;
         Ok(Task {
@@ -127,6 +127,7 @@ impl Task {
         requires { self.old.done + 1 < 2 ^ 64 }
         ensures task { (i : Iterations) (m : Memory) → task_over m self.new ≡ leaves (task_work (doing i depth)) (task_over m self.old) }
         ensures room { self.new.room ≡ self.old.room }
+        ensures reserved { self.new.share.room ≡ self.old.share.room }
         ensures moves { self.new.moves ≡ self.old.moves }
     {
         leave_on(depth, &mut self.share);
@@ -139,6 +140,7 @@ impl Task {
         requires { self.old.done + 1 < 2 ^ 64 }
         ensures task { (m : Memory) → task_over m self.new ≡ arrives (task_work (doing iterations.now depth)) unit (task_over m self.old) }
         ensures room { self.new.room ≡ self.old.room }
+        ensures reserved { self.new.share.room ≡ self.old.share.room }
         ensures moves { self.new.moves ≡ self.old.moves }
     {
         if unit < iterations.units.count() {
@@ -148,43 +150,35 @@ impl Task {
         }
     }
 
-    /// Enters the iteration with this number: its index is a new scalar.
-    fn enter(
-        &mut self,
-        number: u64,
-        iterations: &Iterations,
-        depth: usize,
-    ) -> Result<(), AllocError>
+    /// Enters the iteration with this number: its index is a new scalar, for which there is room.
+    fn enter(&mut self, number: u64, iterations: &Iterations, depth: usize)
         requires done { self.old.done + 1 < 2 ^ 64 }
         requires fits { FitsSigned w64 (iterations.now.from +ℤ pos number) }
-        ensures task { OnOk result ((m : Memory) → task_over m self.new
-            ≡ enters (task_work (doing iterations.now depth)) number tt (task_over m self.old)) }
-        ensures room { OnOk result (self.new.room ≡ self.old.room) }
-        ensures moves { OnOk result (self.new.moves ≡ self.old.moves) }
+        requires index { length self.old.share.scalars < self.old.share.room }
+        ensures task { (m : Memory) → task_over m self.new
+            ≡ enters (task_work (doing iterations.now depth)) number tt (task_over m self.old) }
+        ensures room { self.new.room ≡ self.old.room }
+        ensures reserved { self.new.share.room ≡ self.old.share.room }
+        ensures moves { self.new.moves ≡ self.old.moves }
     {
         let index = offset(iterations.from, number);
-        declare_on(index, &mut self.share)?;
+        declare_on(index, &mut self.share);
         self.iteration = number;
         self.arrive(0, iterations, depth);
-        Ok(())
     }
 
-    /// Begins the iteration with this number: one move.
-    pub(crate) fn begins(
-        &mut self,
-        number: u64,
-        iterations: &Iterations,
-        depth: usize,
-    ) -> Result<(), AllocError>
+    /// Begins the iteration with this number, for whose index there is room: one move.
+    pub(crate) fn begins(&mut self, number: u64, iterations: &Iterations, depth: usize)
         requires counts { CanCount iterations.now.units.now self.old }
         requires fits { FitsSigned w64 (iterations.now.from +ℤ pos number) }
-        ensures task { OnOk result ((m : Memory) → task_over m self.new
-            ≡ counted (enters (task_work (doing iterations.now depth)) number tt (task_over m self.old))) }
-        ensures room { OnOk result (self.new.room ≡ self.old.room) }
+        requires index { length self.old.share.scalars < self.old.share.room }
+        ensures task { (m : Memory) → task_over m self.new
+            ≡ counted (enters (task_work (doing iterations.now depth)) number tt (task_over m self.old)) }
+        ensures room { self.new.room ≡ self.old.room }
+        ensures reserved { self.new.share.room ≡ self.old.share.room }
     {
-        self.enter(number, iterations, depth)?;
+        self.enter(number, iterations, depth);
         self.moves += 1;
-        Ok(())
     }
 
     /// Does the unit of its iteration with this number, and comes before the next one.
@@ -202,6 +196,7 @@ impl Task {
         ensures task { OnOk result (task_over store.now self.new
             ≡ unit_done (task_work (doing iterations.now depth)) unit (task_over store.now self.old)) }
         ensures room { OnOk result (self.new.room ≡ self.old.room) }
+        ensures reserved { OnOk result (self.new.share.room ≡ self.old.share.room) }
         ensures moves { OnOk result (self.new.moves ≡ self.old.moves) }
     {
         let _count = iterations.units.count();
@@ -231,6 +226,7 @@ impl Task {
         ensures task { OnOk result (task_over store.now self.new
             ≡ counted (unit_done (task_work (doing iterations.now depth)) unit (task_over store.now self.old))) }
         ensures room { OnOk result (self.new.room ≡ self.old.room) }
+        ensures reserved { OnOk result (self.new.share.room ≡ self.old.share.room) }
     {
         self.do_unit(unit, iterations, depth, store)?;
         self.moves += 1;

@@ -13,9 +13,9 @@ use Rattle.nona_plans.specs.declared.graphs.Tie.{Tie}
 use Rattle.nona_forms.specs.Affine.{among}
 use Rattle.nona_plans.specs.Mentions.{reduction_of}
 use Rattle.nona_plans.specs.Units.{ties_without}
-use Rattle.nona_parts.specs.Sharing.{Sharing, store_before, index_of}
-use Rattle.nona_parts.proofs.Begun.{unit_fits, swapped}
-use Rattle.nona_parts.proofs.Tasks.{thread, AreJoined, unit_join}
+use Rattle.nona_fission.specs.Sharing.{Sharing, store_before, index_of}
+use Rattle.nona_fission.proofs.Begun.{unit_fits, swapped}
+use Rattle.nona_fission.proofs.Tasks.{thread, AreJoined, unit_join}
 use Rattle.nona_plans.proofs.Leading.{or_left, or_right}
 use Rattle.nona_fission.specs.FoldArrays.{fold_array_of}
 use Rattle.nona_fission.specs.Fission.{MayBeApart, skipped, portion, one_thread_local, own_iteration, own_run, own_partial, own_copy, by_one, copied_part_of, of_either}

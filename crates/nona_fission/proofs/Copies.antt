@@ -18,10 +18,10 @@ use Rattle.nona_forms.specs.Affine.{among}
 use Rattle.nona_plans.specs.declared.graphs.Mention.{Mention}
 use Rattle.nona_plans.specs.Mentions.{plainly}
 use Rattle.nona_plans.proofs.Leading.{same_units}
-use Rattle.nona_parts.proofs.Alike.{sizes_kept}
-use Rattle.nona_parts.proofs.Untied.{in_filter, same_number, only_by}
-use Rattle.nona_parts.proofs.Begun.{unit_fits}
-use Rattle.nona_parts.proofs.Tasks.{zero_number}
+use Rattle.nona_fission.proofs.Alike.{sizes_kept}
+use Rattle.nona_fission.proofs.Untied.{in_filter, same_number, only_by}
+use Rattle.nona_fission.proofs.Begun.{unit_fits}
+use Rattle.nona_fission.proofs.Tasks.{zero_number}
 use Rattle.nona_fission.specs.FoldArrays.{cell_mentions, cell_mentions_all, fold_array_of, with_unit_cells, with_copies}
 
 -- the cells of a fold array are named by its fold alone

@@ -23,7 +23,7 @@ use Rattle.nona_plans.specs.declared.graphs.Tie.{Tie}
 use Rattle.nona_plans.specs.declared.graphs.Local.{Local}
 use Rattle.nona_plans.specs.Units.{ties_of, ties_without, reductions_of, locals_of, uses}
 use Rattle.nona_plans.proofs.Leading.{same_units}
-use Rattle.nona_parts.specs.Sharing.{store_behind, joined_with}
+use Rattle.nona_fission.specs.Sharing.{store_behind, joined_with}
 use Rattle.nona_fission.specs.FoldArrays.{fold_array_of}
 use Rattle.nona_fission.specs.Fission.{Fission, MayBeApart, one_thread_local, own_run, own_copy}
 use Rattle.nona_fission.proofs.Together.{or_cases}

@@ -13,9 +13,9 @@ use Rattle.nona_forms.specs.Affine.{among}
 use Rattle.nona_forms.specs.References.{assigned_all}
 use Rattle.nona_plans.specs.declared.graphs.Local.{Local}
 use Rattle.nona_plans.specs.Units.{local_of, locals_from, locals_of}
-use Rattle.nona_parts.specs.Sharing.{index_of, owned_below}
-use Rattle.nona_parts.proofs.Untied.{among_in, no_and_yes}
-use Rattle.nona_parts.proofs.Tasks.{thread, as_done}
+use Rattle.nona_fission.specs.Sharing.{index_of, owned_below}
+use Rattle.nona_fission.proofs.Untied.{among_in, no_and_yes}
+use Rattle.nona_fission.proofs.Tasks.{thread, as_done}
 use Rattle.nona_fission.specs.Fission.{Fission, MayBeApart, one_thread_local, skipped, portion, own_units, own_over, part_begun}
 use Rattle.nona_fission.proofs.Thread.{thread_begins, all_unassigned, IsFront, front_next, unit_scoped, body_behind}
 use Rattle.nona_fission.proofs.Units.{skipped_last, skipped_depth, index_within, own_alike}

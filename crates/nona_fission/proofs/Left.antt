@@ -19,9 +19,9 @@ use Rattle.nona_forms.proofs.Sound.{all_of_two}
 use Rattle.nona_plans.specs.Mentions.{plainly, prints as has_print}
 use Rattle.nona_plans.specs.Units.{arrays_in, unit_has, unit_prints}
 use Rattle.nona_plans.specs.Walks.{IsUnit}
-use Rattle.nona_parts.specs.Sharing.{store_before, store_behind, index_of, iteration_deeds}
-use Rattle.nona_parts.proofs.Untied.{in_among, no_and_yes}
-use Rattle.nona_parts.proofs.Tasks.{thread, thread_zero, each_of}
+use Rattle.nona_fission.specs.Sharing.{store_before, store_behind, index_of, iteration_deeds}
+use Rattle.nona_fission.proofs.Untied.{in_among, no_and_yes}
+use Rattle.nona_fission.proofs.Tasks.{thread, thread_zero, each_of}
 use Rattle.nona_fission.specs.Fission.{Fission, MayBeApart}
 use Rattle.nona_fission.proofs.Named.{end_all, IsNamedIn, text_of, deeds_named, cell_named_in}
 use Rattle.nona_fission.proofs.Ties.{unit_at, is_unit}

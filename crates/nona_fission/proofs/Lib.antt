@@ -1,3 +1,7 @@
+pub mod Alike
+pub mod Untied
+pub mod Begun
+pub mod Tasks
 pub mod Named
 pub mod Copies
 pub mod Ties

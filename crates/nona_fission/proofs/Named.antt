@@ -24,7 +24,7 @@ use Rattle.nona_forms.proofs.Sound.{all_of_two}
 use Rattle.nona_plans.specs.declared.graphs.Mention.{Mention}
 use Rattle.nona_plans.specs.Mentions.{plainly, expr_mentions, mentions, mentions_row, prints as has_print, prints_row}
 use Rattle.nona_plans.specs.Units.{arrays_in}
-use Rattle.nona_parts.proofs.Untied.{in_map}
+use Rattle.nona_fission.proofs.Untied.{in_map}
 use Rattle.nona_fission.specs.FoldArrays.{expr_cell_mentions, cell_mentions, cell_mentions_row}
 
 -- lists of deeds, whatever store they come from

@@ -17,11 +17,11 @@ use Rattle.nona_forms.specs.Affine.{among}
 use Rattle.nona_plans.specs.Mentions.{plainly, reduction_of}
 use Rattle.nona_plans.specs.Units.{named_in, arrays_in, unit_has}
 use Rattle.nona_plans.specs.Walks.{IsUnit}
-use Rattle.nona_parts.specs.Sharing.{store_before, store_behind, index_of, iteration, joined_with}
-use Rattle.nona_parts.proofs.Alike.{Bond, Bound, HasInner, Granted, AreGranted, Alike, IsAlikeRow, alike_then, alike_turn, run_alike, declare_bound}
-use Rattle.nona_parts.proofs.Untied.{reduction_by, reduction_below}
-use Rattle.nona_parts.proofs.Begun.{unit_fits, unit_begins, joined_units, joined_same, joined_more}
-use Rattle.nona_parts.proofs.Tasks.{thread, thread_zero, AreJoined, join_more, same_fold, scalar_number, unit_join, each_of}
+use Rattle.nona_fission.specs.Sharing.{store_before, store_behind, index_of, iteration, joined_with}
+use Rattle.nona_fission.proofs.Alike.{Bond, Bound, HasInner, Granted, AreGranted, Alike, IsAlikeRow, alike_then, alike_turn, run_alike, declare_bound}
+use Rattle.nona_fission.proofs.Untied.{reduction_by, reduction_below}
+use Rattle.nona_fission.proofs.Begun.{unit_fits, unit_begins, joined_units, joined_same, joined_more}
+use Rattle.nona_fission.proofs.Tasks.{thread, thread_zero, AreJoined, join_more, same_fold, scalar_number, unit_join, each_of}
 use Rattle.nona_fission.specs.FoldArrays.{fold_array_of}
 use Rattle.nona_fission.specs.Fission.{Fission, MayBeApart, skipped, portion, portion_deeds, own_iteration, own_iteration_deeds, own_run, own_partial, own_copy, by_one}
 use Rattle.nona_fission.proofs.Named.{cell_named_in}

@@ -12,10 +12,10 @@ use Rattle.nona_tree.specs.Numbers.{AreI64}
 use Rattle.nona_tree.specs.Run.{Ran, then_from, then_do, run}
 use Rattle.nona_forms.specs.Touched.{IsOfAccess}
 use Rattle.nona_plans.specs.Units.{named_in, arrays_in}
-use Rattle.nona_parts.specs.Sharing.{store_before, index_of}
-use Rattle.nona_parts.proofs.Alike.{Bound, run_alike}
-use Rattle.nona_parts.proofs.Begun.{unit_fits}
-use Rattle.nona_parts.proofs.Tasks.{thread, AreJoined, scalar_number, unit_join}
+use Rattle.nona_fission.specs.Sharing.{store_before, index_of}
+use Rattle.nona_fission.proofs.Alike.{Bound, run_alike}
+use Rattle.nona_fission.proofs.Begun.{unit_fits}
+use Rattle.nona_fission.proofs.Tasks.{thread, AreJoined, scalar_number, unit_join}
 use Rattle.nona_fission.specs.Fission.{Fission, MayBeApart}
 use Rattle.nona_fission.proofs.Named.{deeds_named}
 use Rattle.nona_fission.proofs.Copies.{cell_number}

@@ -13,10 +13,10 @@ use Rattle.nona_tree.specs.Run.{Ran, run, run_all}
 use Rattle.nona_tree.proofs.Keeps.{NoFewer, scalars_kept, SameArrays, arrays_kept, run_kept, all_kept}
 use Rattle.nona_forms.specs.Affine.{among}
 use Rattle.nona_plans.specs.Mentions.{reduction_of}
-use Rattle.nona_parts.specs.Sharing.{store_before, index_of}
-use Rattle.nona_parts.proofs.Alike.{sizes_kept}
-use Rattle.nona_parts.proofs.Untied.{reduction_below}
-use Rattle.nona_parts.proofs.Tasks.{thread, scalar_number}
+use Rattle.nona_fission.specs.Sharing.{store_before, index_of}
+use Rattle.nona_fission.proofs.Alike.{sizes_kept}
+use Rattle.nona_fission.proofs.Untied.{reduction_below}
+use Rattle.nona_fission.proofs.Tasks.{thread, scalar_number}
 use Rattle.nona_fission.specs.FoldArrays.{fold_array_of}
 use Rattle.nona_fission.specs.Fission.{Fission, MayBeApart, skipped, portion, own_iteration}
 use Rattle.nona_fission.proofs.Copies.{cell_number}

@@ -22,10 +22,10 @@ use Rattle.nona_forms.specs.Touched.{IsOfAccess}
 use Rattle.nona_forms.proofs.Sound.{all_of_two}
 use Rattle.nona_plans.specs.Mentions.{reduction_of}
 use Rattle.nona_plans.specs.Units.{named_in, arrays_in}
-use Rattle.nona_parts.specs.Sharing.{index_of, iteration, iteration_deeds, is_write}
-use Rattle.nona_parts.proofs.Alike.{Bond, Bound, declare_bound, cut_bound}
-use Rattle.nona_parts.proofs.Tasks.{thread, AreJoined, as_done, declare_numbers}
-use Rattle.nona_parts.proofs.Untied.{or_none}
+use Rattle.nona_fission.specs.Sharing.{index_of, iteration, iteration_deeds, is_write}
+use Rattle.nona_fission.proofs.Alike.{Bond, Bound, declare_bound, cut_bound}
+use Rattle.nona_fission.proofs.Tasks.{thread, AreJoined, as_done, declare_numbers}
+use Rattle.nona_fission.proofs.Untied.{or_none}
 use Rattle.nona_fission.specs.Fission.{Fission, MayBeApart, skipped, portion, portion_deeds, own_iteration, own_iteration_deeds}
 use Rattle.nona_fission.proofs.Named.{deeds_named}
 use Rattle.nona_fission.proofs.Thread.{thread_depth, body_done, index_number, OwnHas, unit_numbers, IsFront, front_next}

@@ -12,8 +12,8 @@ use Rattle.nona_tree.specs.Numbers.{AreI64}
 use Rattle.nona_tree.specs.Run.{Ran, then_do, run}
 use Rattle.nona_forms.specs.Affine.{among}
 use Rattle.nona_plans.specs.Mentions.{reduction_of}
-use Rattle.nona_parts.specs.Sharing.{store_before, index_of}
-use Rattle.nona_parts.proofs.Tasks.{thread, AreJoined, scalar_number}
+use Rattle.nona_fission.specs.Sharing.{store_before, index_of}
+use Rattle.nona_fission.proofs.Tasks.{thread, AreJoined, scalar_number}
 use Rattle.nona_fission.specs.FoldArrays.{fold_array_of}
 use Rattle.nona_fission.specs.Fission.{Fission, MayBeApart, one_thread_local, skipped, portion, own_iteration, own_run, own_partial, own_copy, copied_part_of}
 use Rattle.nona_fission.proofs.Thread.{thread_begins, body_fits}

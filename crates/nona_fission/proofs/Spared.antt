@@ -16,9 +16,9 @@ use Rattle.nona_tree.proofs.DeedLaws.{each_of_both, scalar_stays, cell_stays, pr
 use Rattle.nona_tree.proofs.Keeps.{NoFewer, scalars_kept, run_kept}
 use Rattle.nona_forms.specs.References.{assigned, assigned_all}
 use Rattle.nona_forms.proofs.Sound.{all_of_two}
-use Rattle.nona_parts.specs.Sharing.{index_of, is_write}
-use Rattle.nona_parts.proofs.Tasks.{each_of}
-use Rattle.nona_parts.proofs.Untied.{or_none}
+use Rattle.nona_fission.specs.Sharing.{index_of, is_write}
+use Rattle.nona_fission.proofs.Tasks.{each_of}
+use Rattle.nona_fission.proofs.Untied.{or_none}
 use Rattle.nona_fission.specs.Fission.{Fission, skipped, portion, portion_deeds, own_iteration, own_iteration_deeds}
 use Rattle.nona_fission.proofs.Named.{end_all, if_all, IsNamedIn, text_of, deeds_named}
 use Rattle.nona_fission.proofs.Thread.{spares}

@@ -35,9 +35,9 @@ use Rattle.nona_plans.specs.declared.graphs.Mention.{Mention}
 use Rattle.nona_plans.specs.Mentions.{mentions, mentions_all}
 use Rattle.nona_plans.specs.Units.{arrays_in, unit_has, are_told_apart, local_of, locals_from}
 use Rattle.nona_plans.specs.Walks.{IsUnit}
-use Rattle.nona_parts.specs.Sharing.{Sharing, store_before, index_of, iteration}
-use Rattle.nona_parts.proofs.Untied.{among_in}
-use Rattle.nona_parts.proofs.Tasks.{thread, thread_zero, from_low, as_done, further, between_fits, declare_numbers, each_of}
+use Rattle.nona_fission.specs.Sharing.{Sharing, store_before, index_of, iteration}
+use Rattle.nona_fission.proofs.Untied.{among_in}
+use Rattle.nona_fission.proofs.Tasks.{thread, thread_zero, from_low, as_done, further, between_fits, declare_numbers, each_of}
 use Rattle.nona_fission.specs.Fission.{Fission, MayBeApart}
 use Rattle.nona_fission.proofs.Named.{end_all, IsNamedIn, text_of, deeds_named}
 use Rattle.nona_fission.proofs.Ties.{IsFree, own_told_apart}

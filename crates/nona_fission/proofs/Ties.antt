@@ -17,7 +17,7 @@ use Rattle.nona_plans.specs.Units.{named_in, arrays_in, unit_has, both_have, car
 use Rattle.nona_plans.specs.Walks.{IsUnit}
 use Rattle.nona_plans.proofs.Leading.{or_left, or_right, and_both}
 use Rattle.nona_plans.proofs.Lists.{unit_among}
-use Rattle.nona_parts.proofs.Untied.{any_of, in_among, in_filter, in_map, same_number, is_lt, one_less, no_and_yes, no_pair, apart_if, same_array}
+use Rattle.nona_fission.proofs.Untied.{any_of, in_among, in_filter, in_map, same_number, is_lt, one_less, no_and_yes, no_pair, apart_if, same_array}
 use Rattle.nona_fission.specs.Fission.{Fission, MayBeApart}
 
 -- a unit by the statements before it

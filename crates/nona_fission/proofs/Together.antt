@@ -21,10 +21,10 @@ use Rattle.nona_plans.specs.Mentions.{plainly, reduction_of, prints as has_print
 use Rattle.nona_plans.specs.Units.{named_in, arrays_in, unit_has, unit_prints}
 use Rattle.nona_plans.specs.Walks.{IsUnit}
 use Rattle.nona_plans.proofs.Leading.{same_units, both}
-use Rattle.nona_parts.specs.Sharing.{store_before, store_behind, index_of, is_write}
-use Rattle.nona_parts.proofs.Untied.{or_none, no_and_yes, same_number}
-use Rattle.nona_parts.proofs.Begun.{other_begins}
-use Rattle.nona_parts.proofs.Tasks.{thread, thread_zero, each_of}
+use Rattle.nona_fission.specs.Sharing.{store_before, store_behind, index_of, is_write}
+use Rattle.nona_fission.proofs.Untied.{or_none, no_and_yes, same_number}
+use Rattle.nona_fission.proofs.Begun.{other_begins}
+use Rattle.nona_fission.proofs.Tasks.{thread, thread_zero, each_of}
 use Rattle.nona_fission.specs.FoldArrays.{fold_array_of}
 use Rattle.nona_fission.specs.Fission.{Fission, MayBeApart, own_iteration, own_iteration_deeds, own_run, own_writes, own_copy, part_begun}
 use Rattle.nona_fission.proofs.Named.{cell_named_in}

@@ -21,11 +21,11 @@ use Rattle.nona_forms.specs.Touched.{IsTouched, IsOfAccess}
 use Rattle.nona_forms.proofs.Touching.{deeds_touch}
 use Rattle.nona_plans.specs.Mentions.{reduction_of}
 use Rattle.nona_plans.specs.Units.{named_in, reductions_of}
-use Rattle.nona_parts.specs.Sharing.{store_before, index_of, iteration, iteration_deeds, owned_below, store_begun}
-use Rattle.nona_parts.proofs.Alike.{Bound}
-use Rattle.nona_parts.proofs.Untied.{in_among}
-use Rattle.nona_parts.proofs.Begun.{unit_fits, units_arrays, units_printed, units_depth, units_numbers, other_begins}
-use Rattle.nona_parts.proofs.Tasks.{thread, thread_zero, from_low, as_done, begun_value, scalar_number, unit_join, each_of}
+use Rattle.nona_fission.specs.Sharing.{store_before, index_of, iteration, iteration_deeds, owned_below, store_begun}
+use Rattle.nona_fission.proofs.Alike.{Bound}
+use Rattle.nona_fission.proofs.Untied.{in_among}
+use Rattle.nona_fission.proofs.Begun.{unit_fits, units_arrays, units_printed, units_depth, units_numbers, other_begins}
+use Rattle.nona_fission.proofs.Tasks.{thread, thread_zero, from_low, as_done, begun_value, scalar_number, unit_join, each_of}
 use Rattle.nona_fission.specs.FoldArrays.{fold_array_of}
 use Rattle.nona_fission.specs.Fission.{Fission, MayBeApart, own_iteration, own_iteration_deeds, own_over, own_deeds, part_begun}
 use Rattle.nona_fission.proofs.Copies.{cell_number, copies_scalars, copies_printed, copies_sizes, copies_numbers, copies_other, copies_unit}

@@ -29,10 +29,10 @@ use Rattle.nona_plans.specs.Mentions.{plainly, mentions, mentions_all, reduction
 use Rattle.nona_plans.specs.Units.{named_in, arrays_in, unit_has, unit_prints, uses, locals_from}
 use Rattle.nona_plans.specs.Walks.{IsUnit}
 use Rattle.nona_plans.proofs.Leading.{or_left, or_right, and_both}
-use Rattle.nona_parts.specs.Sharing.{index_of}
-use Rattle.nona_parts.proofs.Alike.{Bond, Bound, HasInner, Granted, AreGranted, Alike, run_alike, sizes_kept}
-use Rattle.nona_parts.proofs.Untied.{among_in, in_among, in_map, assigned_named, reduction_by, reduction_below, is_lt}
-use Rattle.nona_parts.proofs.Tasks.{AreJoined, join_more, same_fold, scalar_number, declare_numbers, each_of}
+use Rattle.nona_fission.specs.Sharing.{index_of}
+use Rattle.nona_fission.proofs.Alike.{Bond, Bound, HasInner, Granted, AreGranted, Alike, run_alike, sizes_kept}
+use Rattle.nona_fission.proofs.Untied.{among_in, in_among, in_map, assigned_named, reduction_by, reduction_below, is_lt}
+use Rattle.nona_fission.proofs.Tasks.{AreJoined, join_more, same_fold, scalar_number, declare_numbers, each_of}
 use Rattle.nona_fission.specs.FoldArrays.{cell_mentions_all, fold_array_of}
 use Rattle.nona_fission.specs.Fission.{Fission, MayBeApart, one_thread_local, skipped}
 use Rattle.nona_fission.proofs.Named.{IsNamedIn, text_of, deeds_named, cell_named_in}

@@ -21,10 +21,10 @@ use Rattle.nona_forms.specs.References.{assigned, assigned_all}
 use Rattle.nona_plans.specs.Mentions.{reduction_of, prints}
 use Rattle.nona_plans.specs.Units.{named_in, arrays_in, unit_has, unit_prints, ties_of}
 use Rattle.nona_plans.specs.Walks.{IsUnit}
-use Rattle.nona_parts.specs.Sharing.{Sharing, MayBeShared, IsSettled, store_before, store_behind, index_of, iteration, iteration_deeds, turns_over, turns_deeds, numbers_of, store_begun, task_run, is_write, writes_cell, partial_of, joined_with}
-use Rattle.nona_parts.proofs.Begun.{joined_same}
-use Rattle.nona_parts.proofs.Tasks.{zero_number}
-use Rattle.nona_parts.proofs.Untied.{among_in, in_among, assigned_named, or_none, none_of}
+use Rattle.nona_fission.specs.Sharing.{Sharing, MayBeShared, IsSettled, store_before, store_behind, index_of, iteration, iteration_deeds, turns_over, turns_deeds, numbers_of, store_begun, task_run, is_write, writes_cell, partial_of, joined_with}
+use Rattle.nona_fission.proofs.Begun.{joined_same}
+use Rattle.nona_fission.proofs.Tasks.{zero_number}
+use Rattle.nona_fission.proofs.Untied.{among_in, in_among, assigned_named, or_none, none_of}
 use Rattle.nona_fission.specs.Fission.{MayBeApart, portion, portion_deeds, own_iteration, own_iteration_deeds, own_over, own_deeds, own_run, own_writes, whole_of}
 use Rattle.nona_fission.proofs.Left.{depth_left, arrays_left, sizes_left, cells_left, scalars_left, printed_left}
 use Rattle.nona_fission.proofs.Partials.{whole_joins}

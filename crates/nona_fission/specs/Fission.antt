@@ -16,7 +16,7 @@ use Rattle.nona_forms.specs.Guards.{guard_of}
 use Rattle.nona_forms.specs.Separate.{IsLoopEntry}
 use Rattle.nona_plans.specs.declared.graphs.Local.{Local}
 use Rattle.nona_plans.specs.Units.{ties_without, locals_of, uses}
-use Rattle.nona_parts.specs.Sharing.{Sharing, index_of, numbers_of, store_begun, is_write}
+use Rattle.nona_fission.specs.Sharing.{Sharing, index_of, numbers_of, store_begun, is_write}
 use Rattle.nona_fission.specs.FoldArrays.{fold_array_of, with_copies}
 
 -- a part of a loop that is run apart: the iterations and the tasks that share them; which units of the body these tasks run; of which

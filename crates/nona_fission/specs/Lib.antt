@@ -1,2 +1,3 @@
+pub mod Sharing
 pub mod FoldArrays
 pub mod Fission

@@ -11,8 +11,8 @@ ghost use Rattle.nona_tree.specs.Memory.{Memory, scalar_at, cell_at, cells_of};
 ghost use Rattle.nona_tree.specs.Numbers.{AreI64};
 ghost use Rattle.nona_tree.specs.Run.{done, then_do};
 ghost use Rattle.nona_plans.specs.Mentions.{reduction_of};
-ghost use Rattle.nona_parts.specs.Sharing.{Sharing, MayBeShared, store_before, store_behind, iteration, iteration_deeds, turns_over, turns_deeds};
-ghost use Rattle.nona_parts.specs.Sharing.{task_run, writes_cell, partial_of, joined_with, IsSettled};
+ghost use Rattle.nona_fission.specs.Sharing.{Sharing, MayBeShared, store_before, store_behind, iteration, iteration_deeds, turns_over, turns_deeds};
+ghost use Rattle.nona_fission.specs.Sharing.{task_run, writes_cell, partial_of, joined_with, IsSettled};
 ghost use Rattle.nona_fission.specs.Fission.{MayBeApart, own_run, own_writes, whole_of};
 
 /// Says that whole iterations are units that are run apart: iterations that may be shared out are a part that may be run apart, which

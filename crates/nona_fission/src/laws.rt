@@ -1,6 +1,7 @@
 //! Laws of units that are run apart. Each function does nothing when it is called: its contract is the law.
 
-ghost use Rattle.std.specs.Prelude.{◌≡◌, ◌≢◌, ◌⊎◌, ℕ, ◌+◌, ◌<◌, Bool, List, [], ◌∷◌, ◌++◌, length, true, false, None, Some};
+ghost use Rattle.std.specs.Prelude.{◌≡◌, ◌≢◌, ◌⊎◌, ℕ, ◌+◌, ◌<◌, Bool, true, false};
+ghost use Rattle.std.specs.Prelude.{List, [], ◌∷◌, ◌++◌, length, None, Some};
 ghost use Rattle.std.specs.List.{Contains};
 ghost use Rattle.nona_num.specs.declared.folds.Fold.{Fold};
 ghost use Rattle.nona_num.specs.Folds.{unit_of, join_of};
@@ -17,7 +18,7 @@ ghost use Rattle.nona_plans.specs.declared.graphs.Local.{Local};
 ghost use Rattle.nona_plans.specs.Mentions.{reduction_of};
 ghost use Rattle.nona_plans.specs.Units.{named_in, arrays_in, unit_has, unit_prints, locals_of};
 ghost use Rattle.nona_plans.specs.Walks.{IsUnit};
-ghost use Rattle.nona_parts.specs.Sharing.{Sharing, store_before, store_behind, owned_below, joined_with};
+ghost use Rattle.nona_fission.specs.Sharing.{Sharing, store_before, store_behind, owned_below, joined_with};
 ghost use Rattle.nona_fission.specs.FoldArrays.{fold_array_of};
 ghost use Rattle.nona_fission.specs.Fission.{Fission, MayBeApart, own_iteration, own_iteration_deeds, own_over, own_deeds, own_run, own_units, part_begun};
 ghost use Rattle.nona_fission.specs.Fission.{own_writes, own_partial, own_copy, by_one, copied_part_of, of_either, one_thread_local};

@@ -3,7 +3,7 @@
 //! `specs/` defines what each of several tasks runs of a loop's iterations where it runs only some units, the statements at the top
 //! of the body, is given numbers for the other units' locals, and may have copies of fold arrays, whose cells the body names only on
 //! the left of one fold (`Fission`). The law is that the tasks together do to the store what these units do in one thread. Where
-//! each task runs whole iterations (`Sharing` in `nona_parts`), they give together what one thread gives.
+//! each task runs whole iterations (`Sharing`), they give together what one thread gives.
 #![tactic(auto)]
 
 mod iterations;

@@ -90,14 +90,23 @@ fn is_behind(marks: u64, place: usize) -> bool
     marks >> place == 0
 }
 
-// Puts a value behind the others of a list: where it is the first, with room for some more. Where memory runs out the list is
-// unchanged.
+// Makes room for as many values again, and for some at least. The values stay.
+#[cold]
+#[inline(never)]
+fn make_room(values: &mut Vec<i64>) -> Result<(), AllocError>
+    ensures { values.new.items ≡ values.old.items }
+{
+    values.reserve_exact(values.len().max(FIRST_ROOM))
+}
+
+// Puts a value behind the others of a list. Where memory runs out the list is unchanged.
+#[inline]
 fn push_value(values: &mut Vec<i64>, value: i64) -> Result<(), AllocError>
     ensures ok { OnOk result (values.new.items ≡ insert values.old.items (length values.old.items) value) }
     ensures err { OnErr result (values.new.items ≡ values.old.items) }
 {
-    if values.is_empty() {
-        match values.reserve_exact(FIRST_ROOM) {
+    if values.len() == values.capacity() {
+        match make_room(values) {
             Ok(()) => {}
             Err(error) => return Err(error),
         }
@@ -169,7 +178,30 @@ fn append_value(
     }
 }
 
+// Puts a value at a place that lies before marked ones or is marked itself. Where memory runs out nothing changes.
+#[inline(never)]
+fn put_before(
+    marks: &mut u64,
+    values: &mut Vec<i64>,
+    place: usize,
+    value: i64,
+) -> Result<(), AllocError>
+    requires kept { AreMarked marks.old values.old.items }
+    requires there { place < BLOCK }
+    ensures kept { AreMarked marks.new values.new.items }
+    ensures ok { OnOk result (at_page (block_of marks.new values.new.items) ≡ with_at place value (at_page (block_of marks.old values.old.items))) }
+    ensures err { OnErr result (at_page (block_of marks.new values.new.items) ≡ at_page (block_of marks.old values.old.items)) }
+{
+    if !is_marked(*marks, place) {
+        return add_value(marks, values, place, value);
+    }
+    let at = rank_of(*marks, place);
+    values[at] = value;
+    Ok(())
+}
+
 // Puts a value at a place. Where memory runs out nothing changes.
+#[inline]
 fn put_value(
     marks: &mut u64,
     values: &mut Vec<i64>,
@@ -185,12 +217,7 @@ fn put_value(
     if is_behind(*marks, place) {
         return append_value(marks, values, place, value);
     }
-    if !is_marked(*marks, place) {
-        return add_value(marks, values, place, value);
-    }
-    let at = rank_of(*marks, place);
-    values[at] = value;
-    Ok(())
+    put_before(marks, values, place, value)
 }
 
 // The value behind so many others.

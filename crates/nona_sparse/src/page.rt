@@ -36,7 +36,9 @@ impl Model for Page {
 
 // Adds blocks without values until there is the one with this index: none where it is there already. Where memory runs out, there may
 // be some more.
-fn add_blocks(alloc: Global, blocks: &mut Vec<Block>, index: usize) -> Result<(), AllocError>
+#[cold]
+#[inline(never)]
+fn make_blocks(alloc: Global, blocks: &mut Vec<Block>, index: usize) -> Result<(), AllocError>
     requires few { length blocks.old.items ≤ PARTS }
     requires index { index < PARTS }
     ensures same { at_parts BLOCK blocks.new.items ≡ at_parts BLOCK blocks.old.items }
@@ -47,6 +49,22 @@ fn add_blocks(alloc: Global, blocks: &mut Vec<Block>, index: usize) -> Result<()
         blocks.push(Block::begin(alloc))?;
     }
     Ok(())
+}
+
+// Adds blocks without values where the one with this index isn't there yet. Where memory runs out, there may be some
+// more.
+#[inline]
+fn add_blocks(alloc: Global, blocks: &mut Vec<Block>, index: usize) -> Result<(), AllocError>
+    requires few { length blocks.old.items ≤ PARTS }
+    requires index { index < PARTS }
+    ensures same { at_parts BLOCK blocks.new.items ≡ at_parts BLOCK blocks.old.items }
+    ensures few { length blocks.new.items ≤ PARTS }
+    ensures there { OnOk result (index < length blocks.new.items) }
+{
+    if index < blocks.len() {
+        return Ok(());
+    }
+    make_blocks(alloc, blocks, index)
 }
 
 // Leaves of the values of blocks, the first of which has the index `first` in the array, those that the array's cells don't have.

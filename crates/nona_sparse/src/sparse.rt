@@ -31,7 +31,9 @@ impl Model for SparseArray {
 
 // Adds pages, all empty, until there is the one with this index: none where it is there already. Where memory runs out, there may
 // be some more.
-fn add_pages(alloc: Global, pages: &mut Vec<Page>, index: usize) -> Result<(), AllocError>
+#[cold]
+#[inline(never)]
+fn make_pages(alloc: Global, pages: &mut Vec<Page>, index: usize) -> Result<(), AllocError>
     requires few { length pages.old.items ≤ PAGES }
     requires index { index < PAGES }
     ensures same { at pages.new.items ≡ at pages.old.items }
@@ -42,6 +44,21 @@ fn add_pages(alloc: Global, pages: &mut Vec<Page>, index: usize) -> Result<(), A
         pages.push(Page::begin(alloc))?;
     }
     Ok(())
+}
+
+// Adds empty pages where the one with this index isn't there yet. Where memory runs out, there may be some more.
+#[inline]
+fn add_pages(alloc: Global, pages: &mut Vec<Page>, index: usize) -> Result<(), AllocError>
+    requires few { length pages.old.items ≤ PAGES }
+    requires index { index < PAGES }
+    ensures same { at pages.new.items ≡ at pages.old.items }
+    ensures few { length pages.new.items ≤ PAGES }
+    ensures there { OnOk result (index < length pages.new.items) }
+{
+    if index < pages.len() {
+        return Ok(());
+    }
+    make_pages(alloc, pages, index)
 }
 
 // Leaves of the pages' values those that the array's cells don't have.

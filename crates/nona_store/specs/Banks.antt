@@ -5,7 +5,8 @@ use Rattle.nona_tree.specs.Memory.{Memory}
 use Rattle.nona_tree.specs.Deeds.{Deed, reads, sets, folds, loads, stores, joins, prints}
 
 -- which cells of an array may be loaded and which saved, how many scalars may stand where there is a bound, whether numbers
--- may be printed, whether memory never runs out, and the store beside which a bank writes, where it does so
+-- may be printed, whether memory never runs out, the store beside which a bank writes, where it does so, and for how many
+-- scalars room was reserved
 pub record Limits : Type 0 where
   pub loads : ℕ → ℕ → Bool
   pub saves : ℕ → ℕ → Bool
@@ -13,6 +14,7 @@ pub record Limits : Type 0 where
   pub prints : Bool
   pub firm : Bool
   pub base : Option Memory
+  pub reserved : ℕ
 
 -- so many scalars may stand
 abbrev pub HasRoom : Option ℕ → ℕ → Type 0
@@ -29,6 +31,14 @@ Allows l (reads id) = Unit {0}
 Allows l (sets id) = Unit {0}
 Allows l (folds f id) = Unit {0}
 
--- what a whole store allows: every cell, any number of scalars, and prints; its memory may run out
+-- what a whole store allows: every cell, any number of scalars, and prints; its memory may run out, and no room is reserved
 abbrev pub all_allowed : Limits
-all_allowed = record { loads = λ array place. true; saves = λ array place. true; room = None; prints = true; firm = false; base = None }
+all_allowed = record {
+  loads = λ array place. true;
+  saves = λ array place. true;
+  room = None;
+  prints = true;
+  firm = false;
+  base = None;
+  reserved = 0;
+}

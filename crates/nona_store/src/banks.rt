@@ -9,8 +9,8 @@ use std::alloc::AllocError;
 /// What compiled code computes on: a whole store, or a part of one that allows some of its cells alone.
 ///
 /// `state` is the store that it stands for. `limits` says which cells may be loaded and saved, how many scalars may stand,
-/// whether numbers may be printed, and whether it is firm: then memory never runs out. No call changes the limits. Each call
-/// takes constant time. Where memory runs out the bank is spent.
+/// whether numbers may be printed, whether it is firm: then memory never runs out, and for how many scalars room was reserved. No
+/// call changes the limits. Each call takes constant time. Where memory runs out the bank is spent.
 pub trait Bank {
     ghost state: { Self → Memory };
 

@@ -26,7 +26,9 @@ impl Model for Overlay {
 
 // Adds sparse arrays without values, until there is the one with this id: none where it is there already. Where memory runs out,
 // there may be some more.
-fn add_arrays(alloc: Global, arrays: &mut Vec<SparseArray>, id: u32) -> Result<(), AllocError>
+#[cold]
+#[inline(never)]
+fn make_arrays(alloc: Global, arrays: &mut Vec<SparseArray>, id: u32) -> Result<(), AllocError>
     ensures same { over_of arrays.new.items ≡ over_of arrays.old.items }
     ensures there { OnOk result (id < length arrays.new.items) }
 {
@@ -34,6 +36,19 @@ fn add_arrays(alloc: Global, arrays: &mut Vec<SparseArray>, id: u32) -> Result<(
         arrays.push(SparseArray::begin(alloc))?;
     }
     Ok(())
+}
+
+// Adds sparse arrays without values where the one with this id isn't there yet. Where memory runs out, there may be some
+// more.
+#[inline]
+fn add_arrays(alloc: Global, arrays: &mut Vec<SparseArray>, id: u32) -> Result<(), AllocError>
+    ensures same { over_of arrays.new.items ≡ over_of arrays.old.items }
+    ensures there { OnOk result (id < length arrays.new.items) }
+{
+    if (id as usize) < arrays.len() {
+        return Ok(());
+    }
+    make_arrays(alloc, arrays, id)
 }
 
 // Leaves of the written values those that the arrays' cells don't have.

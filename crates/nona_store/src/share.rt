@@ -1,4 +1,5 @@
 ghost use Rattle.std.specs.Prelude.{◌≡◌, ◌<◌, ◌≤◌, ◌-◌, ◌++◌, ◌∷◌, [], pos, length, take, slice_index_or, slice_set, OnOk, OnErr};
+ghost use Rattle.std.specs.Prelude.{vec_capacity};
 ghost use Rattle.nona_tree.specs.Faults.{cell_bound};
 ghost use Rattle.nona_store.specs.Overlays.{changes_of, over_of, unwritten, with_cell};
 
@@ -9,29 +10,34 @@ use std::alloc::{AllocError, Global};
 use std::marker::Model;
 use std::mem;
 
-/// A task's share of a store that several tasks compute on: scalars of its own, and the cells that it has written and the numbers
-/// that it has printed, which stand beside the store. Contracts see the three.
+/// A task's share of a store that several tasks compute on: scalars of its own, with room for so many at least, and the cells that
+/// it has written and the numbers that it has printed, which stand beside the store. Contracts see the four. The room never changes.
 #[derive(Drop)]
 pub struct Share {
     scalars: Vec<i64>,
+    room: usize,
     overlay: Overlay,
     printed: Vec<i64>,
 }
 
 impl Model for Share {
+    ghost use Rattle.std.specs.Prelude.{◌≤◌, vec_capacity};
     ghost use Rattle.nona_store.specs.Shares.{ShareView};
 
     ghost Value = { ShareView };
 
-    ghost view = { λ s. record { scalars = s.scalars.items; written = s.overlay; printed = s.printed.items } };
+    ghost view = { λ s. record { scalars = s.scalars.items; written = s.overlay; printed = s.printed.items; room = s.room } };
+
+    ghost invariant = { λ s. s.room ≤ vec_capacity s.scalars };
 }
 
 impl Share {
-    /// A share with these scalars, no written cell, and nothing printed. Takes no memory.
+    /// A share with these scalars, no written cell, and nothing printed. It has the room that they have. Takes no memory.
     pub fn begin(alloc: Global, scalars: Vec<i64>) -> Share
-        ensures { result ≡ record { scalars = scalars.items; written = unwritten; printed = [] } }
+        ensures { result ≡ record { scalars = scalars.items; written = unwritten; printed = []; room = vec_capacity scalars } }
     {
         Share {
+            room: scalars.capacity(),
             scalars,
             overlay: Overlay::begin(alloc),
             printed: Vec::new(alloc),
@@ -92,6 +98,14 @@ impl Share {
         Ok(())
     }
 
+    /// Declares a scalar behind the others, for which there is room. Takes no memory.
+    pub fn declare(&mut self, value: i64)
+        requires { length self.old.scalars < self.old.room }
+        ensures { self.new ≡ record self.old { scalars = self.old.scalars ++ value ∷ [] } }
+    {
+        self.scalars.push(value).unwrap();
+    }
+
     /// Drops the last scalars, of which there are at least `count`. Takes constant time.
     pub fn cut_scalars(&mut self, count: usize)
         requires { count ≤ length self.old.scalars }
@@ -122,6 +136,7 @@ impl Share {
         requires { index < cell_bound }
         ensures scalars { self.new.scalars ≡ self.old.scalars }
         ensures printed { self.new.printed ≡ self.old.printed }
+        ensures room { self.new.room ≡ self.old.room }
         ensures ok { OnOk result (over_of self.new.written ≡ with_cell array index value (over_of self.old.written)) }
         ensures err { OnErr result (over_of self.new.written ≡ over_of self.old.written) }
     {
@@ -133,6 +148,7 @@ impl Share {
     pub fn keep_changes(&mut self, store: &Store)
         ensures scalars { self.new.scalars ≡ self.old.scalars }
         ensures printed { self.new.printed ≡ self.old.printed }
+        ensures room { self.new.room ≡ self.old.room }
         ensures written { over_of self.new.written ≡ changes_of store.now (over_of self.old.written) }
     {
         self.overlay.keep_changes(store);
@@ -178,7 +194,7 @@ impl<'a> Bank for ShareBank<'a> {
 
     ghost state = { λ b. shared b.store b.share };
 
-    ghost limits = { λ b. all_beside b.store };
+    ghost limits = { λ b. all_beside b.store b.share.room };
 
     fn scalar(&mut self, id: u32) -> i64 {
         self.share.scalar(id)

@@ -9,7 +9,7 @@ use Rattle.nona_tree.specs.Run.{Ran, meaning_of}
 use Rattle.nona_gen.specs.OfSeen.{planned_image}
 use Rattle.morta_task.specs.Entries.{EntryView}
 use Rattle.morta_task.specs.LogView.{LogView}
-use Rattle.weave.specs.declared.script.Command.{Command as Order}
+use Rattle.morta_script.specs.declared.script.Command.{Command as Order}
 use Rattle.weave.specs.Replay.{IsScriptReplay}
 use Rattle.morta_text.specs.Texts.{log_text}
 use Rattle.parcae.specs.declared.refusal.Refusal.TheVariants as refusal

@@ -7,7 +7,7 @@ use Rattle.nona_tree.specs.declared.trees.Program.{Program}
 use Rattle.nona_store.specs.declared.input.InputFault.TheVariants as input
 use Rattle.nona_tree.specs.Run.{meaning_of}
 use Rattle.nona_store.specs.Input.{numbers_of}
-use Rattle.weave.specs.declared.script.Command.{Command as Order}
+use Rattle.morta_script.specs.declared.script.Command.{Command as Order}
 use Rattle.morta_script.specs.Lines.{commands_of}
 use Rattle.nona_parse.specs.Reading.{IsReading}
 use Rattle.morta_task.specs.LogView.{LogView, empty_log}

@@ -18,7 +18,7 @@ use Rattle.morta_task.specs.RegionView.{RegionView}
 use Rattle.morta_task.specs.Entries.{EntryView}
 use Rattle.morta_task.specs.ImageView.{ImageView}
 use Rattle.morta_task.specs.LogView.{LogView}
-use Rattle.weave.specs.declared.script.Command.{Command as Order}
+use Rattle.morta_script.specs.declared.script.Command.{Command as Order}
 use Rattle.weave.specs.Replay.{IsScriptReplay}
 use Rattle.weave.specs.Serving.{RunsIn}
 use Rattle.weave.specs.WeaveView.{WeaveView}

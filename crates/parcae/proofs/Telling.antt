@@ -12,7 +12,7 @@ use Rattle.nona_tree.specs.Run.{Ran, meaning_of}
 use Rattle.morta_task.specs.Entries.{EntryView}
 use Rattle.morta_task.specs.LogView.{LogView, empty_log}
 use Rattle.morta_task.specs.Legal.{EndsAll, last_in}
-use Rattle.weave.specs.declared.script.Command.{Command as Order}
+use Rattle.morta_script.specs.declared.script.Command.{Command as Order}
 use Rattle.nona_stages.specs.Seen.{seen_of}
 use Rattle.nona_report.specs.Report.{report_text}
 use Rattle.morta_text.specs.Texts.{number_lines, log_text}

@@ -4,7 +4,7 @@ use Rattle.std.specs.declared.option.Option.{Option}
 use Rattle.nona_tree.specs.declared.trees.Program.{Program}
 use Rattle.nona_store.specs.declared.input.InputFault.TheVariants as input
 use Rattle.nona_store.specs.Input.{numbers_of}
-use Rattle.weave.specs.declared.script.Command.{Command as Order}
+use Rattle.morta_script.specs.declared.script.Command.{Command as Order}
 use Rattle.morta_task.specs.LogView.{empty_log}
 use Rattle.morta_script.specs.Lines.{commands_of}
 use Rattle.parcae.specs.declared.files.TheConstants.{TEXT_BYTES, INPUT_BYTES}

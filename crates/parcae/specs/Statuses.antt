@@ -10,7 +10,7 @@ use Rattle.nona_gen.specs.OfSeen.{planned_image}
 use Rattle.morta_task.specs.LogView.{LogView, empty_log}
 use Rattle.morta_task.specs.Entries.{EntryView}
 use Rattle.morta_task.specs.Legal.{IsWholeLog}
-use Rattle.weave.specs.declared.script.Command.{Command as Order}
+use Rattle.morta_script.specs.declared.script.Command.{Command as Order}
 use Rattle.weave.specs.Replay.{script_asks, IsReplayOf}
 use Rattle.nona_stages.specs.Seen.{seen_of}
 use Rattle.nona_report.specs.Report.{report_text}

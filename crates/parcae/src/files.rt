@@ -3,7 +3,7 @@ ghost use Rattle.std.specs.Option.{option_copied};
 ghost use Rattle.nona_tree.specs.Numbers.{IsI64};
 ghost use Rattle.nona_store.specs.Input.{number_bound, numbers_of};
 ghost use Rattle.morta_script.specs.Lines.{commands_of};
-ghost use Rattle.weave.specs.Following.{AreCommands};
+ghost use Rattle.morta_script.specs.Commands.{AreCommands};
 ghost use Rattle.parcae.specs.Accepted.{IsAccepted};
 ghost use Rattle.parcae.specs.Refusing.{unread, faulty};
 ghost use Rattle.parcae.specs.declared.refusal.Source.TheVariants as source;
@@ -15,13 +15,12 @@ ghost use Rattle.parcae.specs.Files.{GivesProgram, GivesInput, NoInput, GivesScr
 
 use crate::refusal::{Kind, Refusal, Source, Stop};
 use fate_io::{Shelf, ShelfFault};
-use morta_script::{ScriptFault, read_script};
+use morta_script::{Script, ScriptFault, read_script};
 use nona_check::{CheckFault, check};
 use nona_parse::{ParseFault, parse};
 use nona_store::{InputFault, read_numbers};
 use nona_tree::{Checked, ProgramFault};
 use std::alloc::Global;
-use weave::Script;
 
 /// The most bytes of a program's text, and of a script's.
 const TEXT_BYTES: usize = 1_048_576;

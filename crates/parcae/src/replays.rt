@@ -2,7 +2,7 @@ ghost use Rattle.std.specs.Prelude.{◌≡◌, ◌≤◌, ◌^◌, length, All};
 ghost use Rattle.fate_io.specs.Sending.{sent_since};
 ghost use Rattle.nona_tree.specs.Numbers.{IsI64};
 ghost use Rattle.nona_store.specs.Input.{number_bound};
-ghost use Rattle.weave.specs.Following.{AreCommands};
+ghost use Rattle.morta_script.specs.Commands.{AreCommands};
 ghost use Rattle.weave.specs.declared.limits.TheConstants.{CAPACITY};
 ghost use Rattle.parcae.specs.Told.{told_of};
 ghost use Rattle.parcae.specs.Ends.{Ends};
@@ -13,13 +13,14 @@ use crate::runs::{Asked, declared_stays, finish};
 use crate::status::Status;
 use fate_io::{Sink, send};
 use morta_exec::{Beginning, DriveFault, drive};
+use morta_script::Script;
 use morta_task::Log;
 use nona_gen::compile;
 use nona_plans::plan_is_lawful;
 use nona_store::Store;
 use nona_tree::{Checked, checked_is_scoped};
 use std::alloc::Global;
-use weave::{Script, Weave};
+use weave::Weave;
 
 /// What is asked of a replay: what is asked of its run, and how many messages a link between two tasks holds, from 1 to 64.
 #[derive(Clone, Copy)]

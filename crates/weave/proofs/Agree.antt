@@ -10,7 +10,7 @@ use Rattle.morta_task.specs.Entries.{EntryView, before, last}
 use Rattle.morta_task.specs.Legal.{last_in, begun, log_of, EachFrom, IsClosed, Continues, ComesNext, IsLegal, EndsAll}
 use Rattle.morta_task.specs.LogView.{LogView}
 use Rattle.morta_task.specs.Running.{chosen, limit_of}
-use Rattle.weave.specs.declared.script.Command.{Command}
+use Rattle.morta_script.specs.declared.script.Command.{Command}
 use Rattle.net_flow.specs.Machines.{Machine, is_over, round, RunsOut, at_end, one_round}
 use Rattle.weave.specs.SeqNet.{seq_machine, ran_of}
 use Rattle.weave.specs.Shared.{shared_machine, shared_ran}

@@ -8,9 +8,9 @@ use Rattle.morta_task.specs.Entries.{EntryView}
 use Rattle.morta_task.specs.LogView.{LogView, IsAtHand}
 use Rattle.morta_task.specs.Running.{IsConfig, limit_of, interval_of}
 use Rattle.morta_task.specs.Promise.{GoesOn}
-use Rattle.weave.specs.declared.script.Command.{Command}
-use Rattle.weave.specs.declared.script.Command.TheVariants.{Use, Step, Pause}
-use Rattle.weave.specs.Following.{IsCommand, AreCommands}
+use Rattle.morta_script.specs.declared.script.Command.{Command}
+use Rattle.morta_script.specs.declared.script.Command.TheVariants.{Use, Step, Pause}
+use Rattle.morta_script.specs.Commands.{IsCommand, AreCommands}
 use Rattle.weave.specs.Asking.{IsNoUse, IsUseAt}
 use Rattle.weave.specs.Replay.{behind_use, commands_left, left_at, next_request, current_at, IsReplayed, UsesScheme}
 use Rattle.weave.specs.WeaveView.{WeaveView}

@@ -2,8 +2,8 @@
 use Rattle.std.proofs.Common.{◌≡◌, ◌<◌, ◌+◌, ℕ, Bool, true, false, List, [], ◌∷◌, length, drop, refl, sym, ap, subst, ◌∙◌, get_or, if◌then◌else◌}
 use Rattle.std.proofs.lemmas.List.{drop_more}
 use Rattle.net_flow.specs.Machines.{is_over, stepped}
-use Rattle.weave.specs.declared.script.Command.{Command}
-use Rattle.weave.specs.declared.script.Command.TheVariants.{Use, Step, Pause}
+use Rattle.morta_script.specs.declared.script.Command.{Command}
+use Rattle.morta_script.specs.declared.script.Command.TheVariants.{Use, Step, Pause}
 use Rattle.weave.specs.Following.{Followed, follow}
 use Rattle.weave.specs.NetView.{NetView, machine}
 use Rattle.weave.specs.Obeys.{Obeys}

@@ -3,8 +3,8 @@ use Rattle.std.proofs.Common.{◌≡◌, ◌<◌, ℕ, ℤ, List, ap, ◌∙◌}
 use Rattle.nona_tree.specs.Memory.{Memory}
 use Rattle.morta_task.specs.Entries.{loop_of}
 use Rattle.net_flow.proofs.StepForm.{rises, rest}
-use Rattle.net_stages.specs.Entries.{pipe_work}
-use Rattle.net_stages.specs.Works.{Values}
+use Rattle.net_pipe.specs.Entries.{pipe_work}
+use Rattle.net_pipe.specs.Works.{Values}
 use Rattle.net_share.specs.declared.sharing.StepEnd.{StepEnd}
 use Rattle.net_share.specs.declared.sharing.StepEnd.TheVariants as step_end
 use Rattle.net_share.specs.Entries.{work_in}

@@ -11,7 +11,7 @@ use Rattle.morta_task.specs.declared.schemes.Config.{Config}
 use Rattle.morta_task.specs.declared.intervals.Cut.TheVariants.{Limit, Paused}
 use Rattle.morta_task.specs.Entries.{EntryView, IsEntered, IsWithin, before, last, state_after}
 use Rattle.morta_task.specs.Running.{CutSays, IsDone, cut_of}
-use Rattle.weave.specs.declared.script.Command.{Command}
+use Rattle.morta_script.specs.declared.script.Command.{Command}
 use Rattle.net_flow.specs.Machines.{RunsOut}
 use Rattle.weave.specs.Following.{follow}
 use Rattle.weave.specs.SeqNet.{SeqNet, Stand, Claims, Unit_of, Finished, is_finished, seq_machine, begun_net, ran_of}

@@ -6,7 +6,7 @@ use Rattle.nona_tree.specs.declared.trees.Stmt.{Stmt}
 use Rattle.nona_tree.specs.Memory.{Memory, declare}
 use Rattle.nona_tree.specs.Run.{run}
 use Rattle.morta_task.specs.Entries.{EntryView}
-use Rattle.weave.specs.declared.script.Command.{Command}
+use Rattle.morta_script.specs.declared.script.Command.{Command}
 use Rattle.net_flow.specs.Machines.{RunsOut}
 use Rattle.weave.specs.Following.{follow}
 use Rattle.weave.specs.SeqNet.{SeqNet, Stand, Claims, Unit_of, Finished, at_units, is_granted, behind_unit, step_at, is_finished, seq_machine, begun_net}

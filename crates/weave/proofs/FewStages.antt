@@ -15,10 +15,10 @@ use Rattle.nona_plans.specs.Plans.{IsNarrow}
 use Rattle.nona_plans.specs.Walks.{IsUnit}
 use Rattle.net_flow.specs.Shapes.{sum_to}
 use Rattle.net_pipe.specs.Staged.{IsStaged}
-use Rattle.net_stages.specs.Entries.{MayPipe, staging_in}
-use Rattle.net_stages.specs.Steps.{AreFew}
-use Rattle.net_stages.specs.Works.{Staging, shape_of, stage_at, unit_number}
-use Rattle.net_stages.proofs.PartsApart.{in_order, lawful_stages}
+use Rattle.net_pipe.specs.Entries.{MayPipe, staging_in}
+use Rattle.net_pipe.specs.Steps.{AreFew}
+use Rattle.net_pipe.specs.Works.{Staging, shape_of, stage_at, unit_number}
+use Rattle.net_pipe.proofs.PartsApart.{in_order, lawful_stages}
 use Rattle.weave.proofs.Few.{few_units}
 
 -- a unit of a stage comes no earlier than its place in it

@@ -1,7 +1,7 @@
 -- A machine that is seen in another one: what commands and rounds do to it there is what they do to it alone.
 use Rattle.std.proofs.Common.{◌≡◌, ◌+◌, ℕ, zero, suc, nat_lt, Bool, true, false, ◌&&◌, List, [], ◌∷◌, refl, sym, ap, ◌∙◌, if◌then◌else◌}
-use Rattle.weave.specs.declared.script.Command.{Command}
-use Rattle.weave.specs.declared.script.Command.TheVariants.{Use, Step, Pause}
+use Rattle.morta_script.specs.declared.script.Command.{Command}
+use Rattle.morta_script.specs.declared.script.Command.TheVariants.{Use, Step, Pause}
 use Rattle.net_flow.specs.Machines.{Machine, over_from, is_over, step_times, stepped, step_once, round_from, round, RunsOut, at_end, one_round}
 use Rattle.weave.specs.Following.{Followed, follow}
 

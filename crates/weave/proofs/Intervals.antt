@@ -9,8 +9,8 @@ use Rattle.morta_task.specs.declared.intervals.Handoff.{Handoff}
 use Rattle.morta_task.specs.declared.intervals.Ran.{Ran}
 use Rattle.morta_task.specs.Entries.{EntryView, IsEntered, before, last, loop_of, offers, state_after}
 use Rattle.morta_task.specs.Running.{HasWorkers, IsHandoff, IsDone, HandsOn}
-use Rattle.weave.specs.declared.script.Command.{Command}
-use Rattle.net_stages.specs.Entries.{MayPipe}
+use Rattle.morta_script.specs.declared.script.Command.{Command}
+use Rattle.net_pipe.specs.Entries.{MayPipe}
 use Rattle.net_flow.specs.Machines.{Machine, RunsOut}
 use Rattle.weave.specs.Following.{Followed, follow}
 use Rattle.weave.specs.NetView.{NetView, One, Shared, Staged, machine, BeginsIn, EndsWith}

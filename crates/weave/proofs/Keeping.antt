@@ -1,7 +1,7 @@
 -- What commands and rounds keep that each step keeps.
 use Rattle.std.proofs.Common.{◌≡◌, ◌<◌, ◌≤◌, ◌+◌, ℕ, zero, suc, nat_lt, Bool, true, false, List, [], ◌∷◌, refl, sym, subst, arith, if◌then◌else◌}
-use Rattle.weave.specs.declared.script.Command.{Command}
-use Rattle.weave.specs.declared.script.Command.TheVariants.{Use, Step, Pause}
+use Rattle.morta_script.specs.declared.script.Command.{Command}
+use Rattle.morta_script.specs.declared.script.Command.TheVariants.{Use, Step, Pause}
 use Rattle.net_flow.specs.Machines.{Machine, is_over, step_times, stepped, step_once, round_from, round, RunsOut, at_end, one_round}
 use Rattle.weave.specs.Following.{Followed, follow}
 

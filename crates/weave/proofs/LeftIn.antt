@@ -11,8 +11,8 @@ use Rattle.net_share.specs.Entries.{work_in}
 use Rattle.net_share.specs.Kept.{no_meaning, net_of as shares_of}
 use Rattle.net_share.specs.Works.{Doing, sharing_work}
 use Rattle.net_pipe.specs.Kept.{net_of as staged_of}
-use Rattle.net_stages.specs.Entries.{IsPipeNet, MayPipe, staging_in}
-use Rattle.net_stages.specs.Works.{Values, shape_of}
+use Rattle.net_pipe.specs.Entries.{IsPipeNet, MayPipe, staging_in}
+use Rattle.net_pipe.specs.Works.{Values, shape_of}
 use Rattle.weave.specs.declared.net.Net.{Net}
 use Rattle.weave.specs.declared.net.Net.TheVariants as net
 use Rattle.weave.specs.declared.shared_tasks.SharedTasks.{SharedTasks}

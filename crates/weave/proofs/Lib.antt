@@ -16,6 +16,7 @@ pub mod NoMeaning
 pub mod TaskMoves
 pub mod StagedMoves
 pub mod LeftIn
+pub mod Rounds
 pub mod SharedEnds
 pub mod StagedEnds
 pub mod Intervals

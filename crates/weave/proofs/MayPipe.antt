@@ -3,7 +3,7 @@ use Rattle.std.proofs.Common.{◌≡◌, ◌≢◌, ◌≤◌, ◌+◌, ℕ, ℤ
 use Rattle.std.specs.Int.{int_gap}
 use Rattle.nona_tree.specs.declared.plans.Stage.{Stage}
 use Rattle.morta_task.specs.Entries.{EntryView, IsEntered, IsWithin, before, last, loop_of, is_guarded, has_stages}
-use Rattle.net_stages.specs.Entries.{MayPipe}
+use Rattle.net_pipe.specs.Entries.{MayPipe}
 use Rattle.weave.specs.StagedTasks.{OffersStages}
 use Rattle.weave.proofs.Ends.{last_is, room_within}
 use Rattle.weave.proofs.MayShare.{both, is_loop_entry, within_last}

@@ -7,7 +7,7 @@ use Rattle.morta_task.specs.declared.intervals.Interval.{Interval}
 use Rattle.morta_task.specs.Entries.{EntryView}
 use Rattle.morta_task.specs.LogView.{LogView, with_interval, IsAtHand, last_one, next_one}
 use Rattle.morta_task.specs.Running.{limit_of, seq_one}
-use Rattle.weave.specs.declared.script.Command.{Command}
+use Rattle.morta_script.specs.declared.script.Command.{Command}
 use Rattle.weave.specs.Replay.{behind_use, commands_left_in, left_behind, left_after, left_at, next_request, current_after, current_at, script_asks, IsReplayed, IsReplayOf, IsDriven, AreDriven}
 use Rattle.weave.specs.WeaveView.{WeaveView}
 use Rattle.weave.specs.WeavePromise.{StandsFor, HasTaken, HasAsked, by_itself, by_anyone}

@@ -9,7 +9,7 @@ use Rattle.nona_tree.specs.Run.{done}
 use Rattle.nona_tree.specs.Smallness.{IsSmallLoop}
 use Rattle.nona_tree.specs.declared.trees.Loop.{Loop}
 use Rattle.nona_plans.specs.Units.{reductions_of}
-use Rattle.nona_parts.specs.Sharing.{with_units}
+use Rattle.nona_fission.specs.Sharing.{with_units}
 use Rattle.morta_task.specs.Entries.{EntryView, IsEntered, before, loop_of, state_after}
 use Rattle.net_flow.specs.Begun.{begun_net}
 use Rattle.net_flow.specs.Net.{Net}

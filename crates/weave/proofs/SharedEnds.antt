@@ -7,7 +7,7 @@ use Rattle.nona_tree.specs.Run.{Ran as Run, done}
 use Rattle.morta_task.specs.declared.schemes.Config.{Config}
 use Rattle.morta_task.specs.Entries.{EntryView, IsWithin, before, last, state_after}
 use Rattle.morta_task.specs.Running.{CutSays, IsDone, cut_of}
-use Rattle.weave.specs.declared.script.Command.{Command}
+use Rattle.morta_script.specs.declared.script.Command.{Command}
 use Rattle.net_flow.specs.Machines.{RunsOut}
 use Rattle.net_flow.specs.Net.{Net}
 use Rattle.weave.specs.Following.{follow}

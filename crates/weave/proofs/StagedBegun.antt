@@ -8,7 +8,7 @@ use Rattle.nona_tree.specs.declared.trees.Stmt.{Stmt}
 use Rattle.nona_tree.specs.Memory.{Memory}
 use Rattle.nona_tree.specs.Run.{done}
 use Rattle.nona_plans.specs.Units.{reductions_of}
-use Rattle.nona_parts.specs.Sharing.{with_units}
+use Rattle.nona_fission.specs.Sharing.{with_units}
 use Rattle.morta_task.specs.declared.intervals.Handoff.{Handoff}
 use Rattle.morta_task.specs.Running.{IsHandoff}
 use Rattle.morta_task.specs.Entries.{EntryView, IsEntered, before, loop_of, state_after}
@@ -17,9 +17,9 @@ use Rattle.net_flow.specs.Net.{Net}
 use Rattle.net_pipe.specs.declared.pipeline.Pipeline.{Pipeline}
 use Rattle.net_pipe.specs.Begun.{first_values}
 use Rattle.net_pipe.specs.Kept.{IsKept, doing_of, net_of, store_of}
-use Rattle.net_stages.specs.Entries.{IsPipeNet, MayPipe, staging_in}
-use Rattle.net_stages.specs.Steps.{AreFew}
-use Rattle.net_stages.specs.Works.{Staging, Values, stages_work}
+use Rattle.net_pipe.specs.Entries.{IsPipeNet, MayPipe, staging_in}
+use Rattle.net_pipe.specs.Steps.{AreFew}
+use Rattle.net_pipe.specs.Works.{Staging, Values, stages_work}
 use Rattle.weave.specs.declared.staged_tasks.StagedTasks.{StagedTasks}
 use Rattle.weave.specs.NetView.{Staged}
 use Rattle.weave.specs.Staged.{begun_staged}

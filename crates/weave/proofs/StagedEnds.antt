@@ -7,11 +7,11 @@ use Rattle.nona_tree.specs.Run.{Ran as Run, done}
 use Rattle.morta_task.specs.declared.schemes.Config.{Config}
 use Rattle.morta_task.specs.Entries.{EntryView, IsWithin, before, last, loop_of, state_after}
 use Rattle.morta_task.specs.Running.{CutSays, IsDone, cut_of}
-use Rattle.weave.specs.declared.script.Command.{Command}
+use Rattle.morta_script.specs.declared.script.Command.{Command}
 use Rattle.net_flow.specs.Machines.{RunsOut}
 use Rattle.net_flow.specs.Net.{Net}
-use Rattle.net_stages.specs.Entries.{MayPipe}
-use Rattle.net_stages.specs.Works.{Values}
+use Rattle.net_pipe.specs.Entries.{MayPipe}
+use Rattle.net_pipe.specs.Works.{Values}
 use Rattle.weave.specs.Following.{follow}
 use Rattle.weave.specs.Staged.{staged_machine, begun_staged, staged_ran}
 use Rattle.weave.proofs.Ends.{above, room_within, cut_by}

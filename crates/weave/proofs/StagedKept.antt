@@ -15,10 +15,10 @@ use Rattle.net_pipe.specs.Tasks.{TaskView, share_of, task_over}
 use Rattle.net_share.specs.declared.sharing.StepEnd.{StepEnd}
 use Rattle.net_share.specs.declared.sharing.StepEnd.TheVariants as step_end
 use Rattle.net_share.specs.Gathered.{views_of}
-use Rattle.net_stages.specs.Entries.{IsPipeNet, pipe_work, staging_in}
-use Rattle.net_stages.specs.Settled.{IsSettledFromStages}
-use Rattle.net_stages.specs.Steps.{CanStep}
-use Rattle.net_stages.specs.Works.{Staging, Values, stages_work}
+use Rattle.net_pipe.specs.Entries.{IsPipeNet, pipe_work, staging_in}
+use Rattle.net_pipe.specs.Settled.{IsSettledFromStages}
+use Rattle.net_pipe.specs.Steps.{CanStep}
+use Rattle.net_pipe.specs.Works.{Staging, Values, stages_work}
 use Rattle.weave.specs.declared.staged_tasks.StagedTasks.{StagedTasks}
 use Rattle.weave.specs.NetView.{Staged, StepSays, machine}
 use Rattle.weave.specs.Staged.{staged_machine}

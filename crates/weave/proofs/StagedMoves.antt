@@ -4,16 +4,16 @@ use Rattle.std.specs.Prelude.{sum_by}
 use Rattle.std.proofs.lemmas.List.Sums.{sum_by-cons}
 use Rattle.std.proofs.Math.Nat.{mul-le-mul_right}
 use Rattle.morta_task.specs.Entries.{EntryView, loop_of}
-use Rattle.weave.specs.declared.script.Command.{Command}
+use Rattle.morta_script.specs.declared.script.Command.{Command}
 use Rattle.net_flow.specs.Machines.{is_over, round, RunsOut, at_end, one_round}
 use Rattle.net_flow.specs.MoveCounts.{pipeline_moves}
 use Rattle.net_flow.specs.Net.{Net, Task, moves_of}
 use Rattle.net_flow.specs.Shapes.{Shape, sum_to}
 use Rattle.net_flow.proofs.Pipelines.{net_round_rises}
 use Rattle.net_pipe.specs.Kept.{most_moves}
-use Rattle.net_stages.specs.Entries.{IsPipeNet, MayPipe, staging_in, stages_meaning}
-use Rattle.net_stages.specs.Works.{Values, shape_of, stages_work}
-use Rattle.net_stages.proofs.StageNets.{granted_within, is_pipeline, lawful_work, stages_begin, stages_end, stages_moved, stages_pause, stages_step}
+use Rattle.net_pipe.specs.Entries.{IsPipeNet, MayPipe, staging_in, stages_meaning}
+use Rattle.net_pipe.specs.Works.{Values, shape_of, stages_work}
+use Rattle.net_pipe.proofs.StageNets.{granted_within, is_pipeline, lawful_work, stages_begin, stages_end, stages_moved, stages_pause, stages_step}
 use Rattle.weave.specs.Following.{follow}
 use Rattle.weave.specs.Staged.{begun_staged, staged_machine}
 use Rattle.weave.proofs.Keeping.{Kept, kept_follow, kept_out, out_is_over}

@@ -4,7 +4,7 @@ use Rattle.std.specs.Prelude.{sum_by}
 use Rattle.std.proofs.lemmas.List.Sums.{sum_by-cons}
 use Rattle.nona_tree.specs.Memory.{Memory}
 use Rattle.morta_task.specs.Entries.{EntryView, loop_of}
-use Rattle.weave.specs.declared.script.Command.{Command}
+use Rattle.morta_script.specs.declared.script.Command.{Command}
 use Rattle.net_flow.specs.Machines.{RunsOut}
 use Rattle.net_flow.specs.MoveCounts.{sharing_moves}
 use Rattle.net_flow.specs.Net.{Net, Task, moves_of}

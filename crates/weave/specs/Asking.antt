@@ -1,8 +1,8 @@
 -- Which commands ask for something.
 use Rattle.std.specs.Prelude.{◌≡◌, ℕ, ◌+◌, ◌<◌, List, [], ◌∷◌, drop, length}
 use Rattle.morta_task.specs.declared.schemes.Ask.{Ask}
-use Rattle.weave.specs.declared.script.Command.{Command}
-use Rattle.weave.specs.declared.script.Command.TheVariants.{Use, Step, Pause}
+use Rattle.morta_script.specs.declared.script.Command.{Command}
+use Rattle.morta_script.specs.declared.script.Command.TheVariants.{Use, Step, Pause}
 
 -- no `use` comes first
 abbrev pub IsNoUse : List Command → Type 0

@@ -6,12 +6,15 @@ use Rattle.morta_task.specs.declared.schemes.Scheme.{Scheme}
 use Rattle.morta_task.specs.declared.schemes.Scheme.TheVariants.{Seq, Any, Pipe}
 use Rattle.morta_task.specs.declared.intervals.Handoff.{Handoff}
 use Rattle.morta_task.specs.declared.intervals.Ran.{Ran}
-use Rattle.morta_task.specs.Entries.{EntryView, before, state_after}
+use Rattle.morta_task.specs.Entries.{EntryView, before, loop_of, state_after}
 use Rattle.net_flow.specs.Machines.{Machine}
-use Rattle.net_flow.specs.Net.{Net}
+use Rattle.net_flow.specs.Net.{Net, task_at}
 use Rattle.net_share.specs.declared.sharing.StepEnd.{StepEnd}
 use Rattle.net_share.specs.declared.sharing.StepEnd.TheVariants as step_end
-use Rattle.net_stages.specs.Works.{Values}
+use Rattle.net_share.specs.Entries.{work_in}
+use Rattle.net_share.specs.May.{IsAtUnit}
+use Rattle.net_pipe.specs.Entries.{pipe_work}
+use Rattle.net_pipe.specs.Works.{Values}
 use Rattle.weave.specs.SeqNet.{SeqNet, seq_machine, begun_net, ran_of}
 use Rattle.weave.specs.Shared.{shared_machine, begun_shared, shared_ran}
 use Rattle.weave.specs.Staged.{staged_machine, begun_staged, staged_ran}
@@ -79,6 +82,13 @@ StepSays step_end.Moved task net next =
 StepSays step_end.Waits task net next =
     (finished_in net task ≡ false) × (waits_in net task ≡ true) × (next ≡ after_step net task)
 StepSays step_end.Finished task net next = (finished_in net task ≡ true) × (next ≡ net)
+
+-- where a step of a task may want memory: before a unit; and under `seq` also before a claim, which declares the index in the store
+abbrev pub MayWant : NetView → ℕ → Type 0
+MayWant (One net) task = finished_in (One net) task ≡ false
+MayWant (Shared e before workers net) task = IsAtUnit (task_at (work_in (loop_of e) before workers) net task).position
+MayWant (Staged e before workers capacity net) task =
+    IsAtUnit (task_at (pipe_work (loop_of e) e.plan workers capacity before) net task).position
 
 -- what an interval did whose tasks have finished, and what it hands on: the next index, and the store that one thread has there
 abbrev pub EndsWith : NetView → Ran → Handoff → Type 0

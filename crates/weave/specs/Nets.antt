@@ -3,8 +3,8 @@ use Rattle.std.specs.Prelude.{ℕ, ◌-◌, length}
 use Rattle.net_flow.specs.MoveCounts.{pipeline_moves, sharing_moves}
 use Rattle.net_flow.specs.Net.{moves_of}
 use Rattle.morta_task.specs.Entries.{loop_of}
-use Rattle.net_stages.specs.Entries.{staging_in}
-use Rattle.net_stages.specs.Works.{shape_of}
+use Rattle.net_pipe.specs.Entries.{staging_in}
+use Rattle.net_pipe.specs.Works.{shape_of}
 use Rattle.weave.specs.declared.net.Net.{Net}
 use Rattle.weave.specs.declared.net.Net.TheVariants as net
 use Rattle.weave.specs.NetView.{NetView, One, Shared, Staged}

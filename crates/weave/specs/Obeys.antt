@@ -1,6 +1,6 @@
 -- What a command does to the machine of an interval.
 use Rattle.std.specs.Prelude.{◌≡◌, Bool, true, false, List, ◌∷◌}
-use Rattle.weave.specs.declared.script.Command.{Command}
+use Rattle.morta_script.specs.declared.script.Command.{Command}
 use Rattle.weave.specs.Following.{follow}
 use Rattle.weave.specs.NetView.{NetView, machine}
 

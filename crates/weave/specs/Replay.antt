@@ -12,13 +12,13 @@ use Rattle.morta_task.specs.Entries.{EntryView, before, state_after}
 use Rattle.morta_task.specs.Legal.{IsLegalLog}
 use Rattle.morta_task.specs.LogView.{LogView}
 use Rattle.morta_task.specs.Running.{seq_one, limit_of}
-use Rattle.weave.specs.declared.script.Command.{Command}
-use Rattle.weave.specs.declared.script.Command.TheVariants.{Use, Step, Pause}
+use Rattle.morta_script.specs.declared.script.Command.{Command}
+use Rattle.morta_script.specs.declared.script.Command.TheVariants.{Use, Step, Pause}
 use Rattle.net_flow.specs.Machines.{RunsOut}
 use Rattle.net_flow.specs.Net.{Net}
 use Rattle.weave.specs.Following.{Followed, follow}
 use Rattle.weave.specs.SeqNet.{SeqNet, begun_net, seq_machine, ran_of}
-use Rattle.net_stages.specs.Works.{Values}
+use Rattle.net_pipe.specs.Works.{Values}
 use Rattle.weave.specs.Shared.{shared_machine, begun_shared, shared_ran}
 use Rattle.weave.specs.Staged.{staged_machine, begun_staged, staged_ran}
 

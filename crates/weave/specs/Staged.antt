@@ -7,8 +7,8 @@ use Rattle.morta_task.specs.Running.{cut_of}
 use Rattle.net_flow.specs.Machines.{Machine}
 use Rattle.net_flow.specs.Net.{Net, moves_of, net_machine}
 use Rattle.net_pipe.specs.Kept.{most_moves}
-use Rattle.net_stages.specs.Entries.{pipe_net, pipe_work}
-use Rattle.net_stages.specs.Works.{Values}
+use Rattle.net_pipe.specs.Entries.{pipe_net, pipe_work}
+use Rattle.net_pipe.specs.Works.{Values}
 
 -- the machine of the tasks of an entry's stages, behind so many of its iterations, where a parallel stage has so many workers and a
 -- link holds so many messages

@@ -6,8 +6,8 @@ use Rattle.nona_plans.specs.Plans.{IsLawfulPlan}
 use Rattle.nona_plans.specs.Units.{reductions_of}
 use Rattle.morta_task.specs.Entries.{EntryView, IsEntered, before, loop_of, state_after}
 use Rattle.net_pipe.specs.Kept.{IsKept, doing_of, net_of, store_of}
-use Rattle.net_stages.specs.Entries.{IsPipeNet, MayPipe, staging_in}
-use Rattle.net_stages.specs.Steps.{AreFew}
+use Rattle.net_pipe.specs.Entries.{IsPipeNet, MayPipe, staging_in}
+use Rattle.net_pipe.specs.Steps.{AreFew}
 use Rattle.weave.specs.declared.staged_tasks.StagedTasks.{StagedTasks}
 use Rattle.weave.specs.NetView.{NetView, Staged}
 

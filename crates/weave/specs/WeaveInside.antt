@@ -4,7 +4,7 @@ use Rattle.morta_task.specs.declared.schemes.Scheme.TheVariants.{Seq}
 use Rattle.morta_task.specs.Running.{IsConfig}
 use Rattle.weave.specs.declared.limits.TheConstants.{CAPACITY}
 use Rattle.weave.specs.declared.weaving.Weave.TheInside.{Inside}
-use Rattle.weave.specs.Following.{AreCommands}
+use Rattle.morta_script.specs.Commands.{AreCommands}
 use Rattle.weave.specs.Replay.{UsesScheme}
 use Rattle.weave.specs.WeaveView.{WeaveView}
 

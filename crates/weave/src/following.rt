@@ -2,14 +2,14 @@
 
 ghost use Rattle.std.specs.Prelude.{◌≡◌, List, drop, false, IfOk, OnOk};
 ghost use Rattle.net_flow.specs.Machines.{is_over};
-ghost use Rattle.weave.specs.declared.script.Command.{Command};
+ghost use Rattle.morta_script.specs.declared.script.Command.{Command};
 ghost use Rattle.weave.specs.Following.{follow as followed};
 ghost use Rattle.weave.specs.NetView.{machine};
 ghost use Rattle.weave.specs.Nets.{IsNet, view_of};
 ghost use Rattle.weave.specs.Obeys.{Obeys};
 
 use crate::net::Net;
-use crate::script::Command;
+use morta_script::Command;
 use std::alloc::AllocError;
 
 /// Does a command to a machine that has not finished, and answers whether the next one is done too: a `use` pauses the

@@ -7,13 +7,11 @@ mod laws;
 mod limits;
 mod net;
 mod one_task;
-mod script;
 mod setting;
 mod shared_tasks;
 mod staged_tasks;
 mod weaving;
 
 pub use laws::{replays_agree, runs_out_to_one, seq_moves, shared_moves, staged_moves};
-pub use limits::{CAPACITY, LAST_TASK, MOVES};
-pub use script::{Command, Script};
+pub use limits::CAPACITY;
 pub use weaving::Weave;

@@ -1,12 +1,12 @@
 //! The machine of an interval, in any version.
 
-ghost use Rattle.std.specs.Prelude.{◌≡◌, ◌<◌, ◌≤◌, true, IsTrue, IfOk, OnOk};
+ghost use Rattle.std.specs.Prelude.{◌≡◌, ◌<◌, ◌≤◌, true, IsTrue, IfOk, OnOk, OnErr};
 ghost use Rattle.std.specs.Int.{int_gap};
 ghost use Rattle.morta_task.specs.Entries.{IsEntered, last, offers};
 ghost use Rattle.morta_task.specs.Running.{IsConfig, IsHandoff};
 ghost use Rattle.net_flow.specs.Machines.{RunsOut, is_over, round as round_of, step_times as stepped_times};
-ghost use Rattle.weave.specs.NetView.{BeginsIn, EndsWith, StepSays, after_pause, machine, tasks_of};
-ghost use Rattle.weave.specs.Nets.{IsNet, view_of};
+ghost use Rattle.weave.specs.NetView.{BeginsIn, EndsWith, MayWant, NetView, StepSays, after_pause, machine, tasks_of};
+ghost use Rattle.weave.specs.Nets.{IsNet, left_in, view_of};
 ghost use Rattle.weave.specs.Serving.{RunsIn};
 
 use crate::one_task::OneTask;
@@ -16,6 +16,9 @@ use crate::staged_tasks::StagedTasks;
 use morta_task::{Entry, Handoff, Ran, RegionCode, Scheme};
 use net_share::StepEnd;
 use std::alloc::{AllocError, Global};
+
+/// How many rounds more the tasks step before it is looked whether all have finished.
+const MORE_ROUNDS: usize = 15;
 
 /// The machine of an interval: one task, tasks that share the iterations, or tasks of the stages through which these go.
 #[derive(Drop)]
@@ -110,12 +113,13 @@ impl<'a> Net<'a> {
 
     /// Does one step of a task: a claim, a receive, one unit, a send, or nothing where it has finished; or it waits. It takes constant
     /// time beside the unit, the locals that a stage skips, and a packet. An error comes where memory runs out, and the machine is
-    /// then spent.
+    /// then spent: in a unit, or in a claim of the one task under `seq`.
     fn step(&mut self, task: usize) -> Result<StepEnd, AllocError>
         requires sound { IsNet self.old }
         requires there { task < tasks_of (view_of self.old) }
         ensures says { IfOk result (λ end. StepSays end task (view_of self.old) (view_of self.new)) }
         ensures sound { OnOk result (IsNet self.new) }
+        ensures err { OnErr result (MayWant (view_of self.old) task) }
     {
         match self {
             Net::One(one) => {
@@ -158,6 +162,19 @@ impl<'a> Net<'a> {
         Ok(())
     }
 
+    /// Steps the tasks round robin, each so often; once all have finished nothing changes any more.
+    fn more_rounds(&mut self, count: usize) -> Result<(), AllocError>
+        requires { IsNet self.old }
+        ensures net { OnOk result ((end : NetView) → RunsOut machine (view_of self.new) end → RunsOut machine (view_of self.old) end) }
+        ensures left { OnOk result (left_in (view_of self.new) ≤ left_in (view_of self.old)) }
+        ensures sound { OnOk result (IsNet self.new) }
+    {
+        'rounds: for _done in 0..count {
+            self.round()?;
+        }
+        Ok(())
+    }
+
     /// Steps the tasks round robin until all have finished.
     pub fn run_out(&mut self) -> Result<(), AllocError>
         requires { IsNet self.old }
@@ -166,6 +183,7 @@ impl<'a> Net<'a> {
     {
         'rounds: while !self.is_over() {
             self.round()?;
+            self.more_rounds(MORE_ROUNDS)?;
         }
         Ok(())
     }

@@ -1,12 +1,12 @@
 //! The machine of an interval under `any`.
 
-ghost use Rattle.std.specs.Prelude.{◌≡◌, ◌<◌, ◌≤◌, true, IfOk, OnOk};
+ghost use Rattle.std.specs.Prelude.{◌≡◌, ◌<◌, ◌≤◌, true, IfOk, OnOk, OnErr};
 ghost use Rattle.std.specs.Int.{int_gap};
 ghost use Rattle.morta_task.specs.declared.limits.TheConstants.{WORKERS};
 ghost use Rattle.morta_task.specs.Entries.{IsEntered, before, last};
 ghost use Rattle.morta_task.specs.Running.{IsHandoff};
 ghost use Rattle.net_flow.specs.Machines.{is_over};
-ghost use Rattle.weave.specs.NetView.{EndsWith, StepSays, Shared, after_pause, machine, tasks_of};
+ghost use Rattle.weave.specs.NetView.{EndsWith, MayWant, StepSays, Shared, after_pause, machine, tasks_of};
 ghost use Rattle.weave.specs.Shared.{begun_shared};
 ghost use Rattle.weave.specs.SharedTasks.{IsSharedTasks, OffersSharing, shared_view};
 
@@ -97,12 +97,13 @@ impl<'a> SharedTasks<'a> {
     }
 
     /// Does one step of a task: a claim, or one unit, or nothing where it has finished. It takes constant time beside the unit. An error
-    /// comes where memory runs out, and the machine is then spent.
+    /// comes where memory runs out in a unit, and the machine is then spent.
     pub fn step(&mut self, task: usize) -> Result<StepEnd, AllocError>
         requires sound { IsSharedTasks self.old }
         requires there { task < tasks_of (shared_view self.old) }
         ensures says { IfOk result (λ end. StepSays end task (shared_view self.old) (shared_view self.new)) }
         ensures sound { OnOk result (IsSharedTasks self.new) }
+        ensures err { OnErr result (MayWant (shared_view self.old) task) }
     {
         sharing_goes_on();
         self.sharing.step(task)

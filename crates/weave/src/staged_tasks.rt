@@ -1,20 +1,19 @@
 //! The machine of an interval under `pipe`.
 
-ghost use Rattle.std.specs.Prelude.{◌≡◌, ◌<◌, ◌≤◌, true, IfOk, OnOk};
+ghost use Rattle.std.specs.Prelude.{◌≡◌, ◌<◌, ◌≤◌, true, IfOk, OnOk, OnErr};
 ghost use Rattle.std.specs.Int.{int_gap};
 ghost use Rattle.morta_task.specs.declared.limits.TheConstants.{WORKERS};
 ghost use Rattle.morta_task.specs.Entries.{IsEntered, before, last};
 ghost use Rattle.morta_task.specs.Running.{IsHandoff};
 ghost use Rattle.net_flow.specs.Machines.{is_over};
-ghost use Rattle.weave.specs.NetView.{EndsWith, StepSays, Staged, after_pause, machine, tasks_of};
+ghost use Rattle.weave.specs.NetView.{EndsWith, MayWant, StepSays, Staged, after_pause, machine, tasks_of};
 ghost use Rattle.weave.specs.Staged.{begun_staged};
 ghost use Rattle.weave.specs.StagedTasks.{IsStagedTasks, OffersStages, staged_view};
 
 use crate::setting::Setting;
 use morta_task::{Cut, Entry, Handoff, Ran, RegionCode, Work};
-use net_pipe::{Pipeline, Stages};
+use net_pipe::{Pipeline, Stages, stages_begin, stages_go_on, stages_settle};
 use net_share::{StepEnd, reductions_stand};
-use net_stages::{stages_begin, stages_go_on, stages_settle};
 use nona_num::{Fold, offset};
 use nona_tree::Outcome;
 use std::alloc::{AllocError, Global};
@@ -103,13 +102,14 @@ impl<'a> StagedTasks<'a> {
     }
 
     /// Does one step of a task: a claim, a receive, one unit, a send, or nothing where it has finished; or it waits. It takes constant
-    /// time beside the unit, the locals that it skips, and a packet. An error comes where memory runs out, and the machine is then
-    /// spent.
+    /// time beside the unit, the locals that it skips, and a packet. An error comes where memory runs out in a unit, and the machine
+    /// is then spent.
     pub fn step(&mut self, task: usize) -> Result<StepEnd, AllocError>
         requires sound { IsStagedTasks self.old }
         requires there { task < tasks_of (staged_view self.old) }
         ensures says { IfOk result (λ end. StepSays end task (staged_view self.old) (staged_view self.new)) }
         ensures sound { OnOk result (IsStagedTasks self.new) }
+        ensures err { OnErr result (MayWant (staged_view self.old) task) }
     {
         stages_go_on();
         self.pipeline.step(task)

@@ -5,7 +5,7 @@ ghost use Rattle.std.specs.Int.{int_gap};
 ghost use Rattle.morta_task.specs.Entries.{IsEntered, last, offers};
 ghost use Rattle.morta_task.specs.Running.{IsConfig, IsHandoff, IsDone, HandsOn, seq_one};
 ghost use Rattle.weave.specs.declared.limits.TheConstants as limits;
-ghost use Rattle.weave.specs.Following.{AreCommands};
+ghost use Rattle.morta_script.specs.Commands.{AreCommands};
 ghost use Rattle.weave.specs.Replay.{commands_left, IsReplayed};
 ghost use Rattle.weave.specs.Asking.{IsNoUse, IsUseAt};
 ghost use Rattle.weave.specs.Serving.{RunsIn};
@@ -13,8 +13,8 @@ ghost use Rattle.weave.specs.WeavePromise.{weave_promise, by_anyone};
 
 use crate::following::follow;
 use crate::net::Net;
-use crate::script::{Command, Script};
 use crate::setting::Setting;
+use morta_script::{Command, Script};
 use morta_task::{
     Ask, Asker, Config, Entry, Handoff, Image, Interval, Morta, Ran, RegionCode, Runner,
 };

@@ -1,4 +1,5 @@
 use Rattle.std.proofs.Common.{ap, ◌∙◌}
+use Rattle.std.specs.Prelude.{vec_capacity}
 use Rattle.net_pipe.specs.Tasks.{task_over}
 use Rattle.net_pipe.proofs.Beginning.{new_over}
 use Rattle.net_pipe.proofs.begun.first_task.Goals as goal
@@ -7,4 +8,4 @@ pub returns-clause-task : goal.returns-clause-task
 returns-clause-task c =
     let m = c.args.store.now in
     ap (task_over m) c.in_ok-task.ensures
-    ∙ new_over c.args.reductions.now m c.args.stage c.args.worker c.args.stages.now.units.now.room c.in_ok-scalars.scalars.items c.in_ok-scalars.ensures
+    ∙ new_over c.args.reductions.now m c.args.stage c.args.worker (vec_capacity c.in_ok-scalars.scalars) c.args.stages.now.units.now.room c.in_ok-scalars.scalars.items c.in_ok-scalars.ensures.scalars

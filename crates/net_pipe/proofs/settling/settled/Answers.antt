@@ -1,7 +1,7 @@
 use Rattle.std.proofs.Common.{List, ◌∙◌, ap, sym, subst}
 use Rattle.net_share.specs.Begins.{AreThere}
 use Rattle.net_share.specs.Gathered.{views_of, with_written}
-use Rattle.net_stages.specs.Settled.{IsSettledFromStages}
+use Rattle.net_pipe.specs.Settled.{IsSettledFromStages}
 use Rattle.net_pipe.specs.Gathered.{brought_together, scalars_settled}
 use Rattle.net_pipe.specs.Tasks.{TaskView, share_of}
 use Rattle.net_pipe.proofs.Gathering.{settles, still_there}

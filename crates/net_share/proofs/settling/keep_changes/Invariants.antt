@@ -1,7 +1,7 @@
-use Rattle.net_share.proofs.Gathering.{AreLeftBelow}
+use Rattle.net_share.proofs.Gathering.{AreLeftBehindBelow}
 use Rattle.net_share.specs.Tasks.{share_of}
 use Rattle.net_share.proofs.settling.keep_changes.Given as goal
 
--- the tasks so far have only what isn't in the store already, and the others are as they were
+-- the first task is as it was, the others so far have only what isn't in the store already, and the rest are as they were
 abbrev pub invariant-tasks : goal.invariant-tasks
-invariant-tasks l = AreLeftBelow share_of l.number l.store l.initial.tasks.items l.tasks.items
+invariant-tasks l = AreLeftBehindBelow share_of l.number l.store l.initial.tasks.items l.tasks.items

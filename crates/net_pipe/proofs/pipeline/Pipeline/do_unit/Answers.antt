@@ -2,7 +2,12 @@ use Rattle.std.proofs.Common.{refl, sym}
 use Rattle.net_flow.specs.Flow.{Unit_at}
 use Rattle.net_pipe.specs.Kept.{net_of, work_of}
 use Rattle.net_pipe.proofs.Moves.{at_position, unit_is}
+use Rattle.net_pipe.proofs.Stepping.{may_do}
 use Rattle.net_pipe.proofs.pipeline.Pipeline.do_unit.Goals as goal
+
+pub does_unit-requires-clause-may : goal.does_unit-requires-clause-may
+does_unit-requires-clause-may c =
+    may_do c.args.self.now c.args.task c.requires.there c.requires.may c.index_mut.result.now (sym c.index_mut.ensures.value) c.args.unit c.requires.before
 
 pub returns-clause-acts : goal.returns-clause-acts
 returns-clause-acts c =

@@ -2,7 +2,7 @@ use Rattle.std.proofs.Common.{◌∙◌, ◌++◌, ◌∷◌, [], List, ℤ, ref
 use Rattle.net_flow.specs.Flow.{Sends}
 use Rattle.net_flow.specs.Net.{Message, is_full, link_at}
 use Rattle.net_flow.specs.Shapes.{link_of}
-use Rattle.net_stages.specs.Works.{shape_of}
+use Rattle.net_pipe.specs.Works.{shape_of}
 use Rattle.net_pipe.specs.Kept.{net_of, work_of}
 use Rattle.net_pipe.specs.Links.{LinkView}
 use Rattle.net_pipe.specs.Staged.{staging_of}

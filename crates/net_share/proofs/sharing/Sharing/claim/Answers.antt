@@ -15,4 +15,4 @@ returns-clause-net c =
     let n = c.args.self.now in
     let a_claim : c.may_claim.result ≡ true = search rules in
     granted_is (work_of n) n.granted n.iterations.limit n.paused n.store n.tasks.items c.args.task c.index_mut-2.result.now c.requires.there
-    (sym c.index_mut-2.ensures.value) c.begins.new.self (sym c.may_claim.ensures ∙ a_claim) (c.in_ok-begins.ensures.task n.store)
+    (sym c.index_mut-2.ensures.value) c.begins.new.self (sym c.may_claim.ensures ∙ a_claim) (c.begins.ensures.task n.store)

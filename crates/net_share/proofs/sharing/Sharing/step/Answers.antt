@@ -4,9 +4,9 @@ use Rattle.net_share.specs.Tasks.{stand_of}
 use Rattle.net_share.proofs.Keeping.{sound_step}
 use Rattle.net_share.proofs.sharing.Sharing.step.Goals as goal
 
-pub returns-in_ok-claim-in-Claims-clause-sound : goal.returns-in_ok-claim-in-Claims-clause-sound
-returns-in_ok-claim-in-Claims-clause-sound c =
-    let e = c.in_ok-claim-in-Claims.ensures in
+pub returns-in-Claims-clause-sound : goal.returns-in-Claims-clause-sound
+returns-in-Claims-clause-sound c =
+    let e = c.claim.ensures in
     sound_step c.args.self.now c.claim.new.self c.requires.sound e.stays c.args.task c.requires.there place.Claims
     (ap stand_of (sym c.in-Claims.is) ∙ c.position.ensures) refl e.net
 

@@ -5,7 +5,7 @@ use Rattle.nona_plans.specs.Units.{reductions_of}
 use Rattle.morta_task.specs.Entries.{before, loop_of}
 use Rattle.net_pipe.specs.Staged.{IsStaged}
 use Rattle.net_share.specs.Begins.{AreThere}
-use Rattle.net_stages.specs.Entries.{MayPipe, staging_in}
+use Rattle.net_pipe.specs.Entries.{MayPipe, staging_in}
 use Rattle.weave.specs.declared.staged_tasks.StagedTasks.{StagedTasks}
 use Rattle.weave.proofs.Ends.{few_iterations, indices_fit, room_within}
 use Rattle.weave.proofs.FewStages.{are_few, is_staged}

@@ -2,7 +2,7 @@ use Rattle.std.proofs.Common.{ℤ, List, sym, ap, ◌∙◌}
 use Rattle.net_flow.specs.Machines.{is_over}
 use Rattle.net_flow.specs.Net.{Work, net_machine}
 use Rattle.net_pipe.specs.Kept.{net_of}
-use Rattle.net_stages.specs.Works.{Values}
+use Rattle.net_pipe.specs.Works.{Values}
 use Rattle.weave.specs.NetView.{Staged, machine}
 use Rattle.weave.specs.Staged.{staged_machine}
 use Rattle.weave.specs.StagedTasks.{capacity_of, done_before, workers_of}

@@ -1,7 +1,7 @@
 use Rattle.std.proofs.Common.{◌≡◌, ◌≤◌, ℕ, List, drop, sym, ap, subst, ◌∙◌}
 use Rattle.morta_task.specs.declared.intervals.Handoff.{Handoff}
 use Rattle.morta_task.specs.declared.intervals.Ran.{Ran}
-use Rattle.weave.specs.declared.script.Command.{Command}
+use Rattle.morta_script.specs.declared.script.Command.{Command}
 use Rattle.weave.specs.Following.{follow}
 use Rattle.weave.specs.NetView.{BeginsIn, EndsWith, machine}
 use Rattle.weave.specs.Nets.{view_of}

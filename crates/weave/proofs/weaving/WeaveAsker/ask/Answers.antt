@@ -1,6 +1,6 @@
 use Rattle.std.proofs.Common.{◌≡◌, ◌+◌, ◌⊎◌, List, drop, inr, sym, ap, subst, ◌∙◌}
 use Rattle.morta_task.specs.declared.schemes.Scheme.TheVariants.{Seq}
-use Rattle.weave.specs.declared.script.Command.{Command}
+use Rattle.morta_script.specs.declared.script.Command.{Command}
 use Rattle.weave.specs.Asking.{IsNoUse, IsUseAt}
 use Rattle.weave.specs.Replay.{UsesScheme}
 use Rattle.weave.specs.WeaveView.{WeaveView}

@@ -1,4 +1,0 @@
-pub mod Works
-pub mod Settled
-pub mod Entries
-pub mod Steps

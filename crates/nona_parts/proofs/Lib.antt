@@ -1,4 +1,0 @@
-pub mod Alike
-pub mod Untied
-pub mod Begun
-pub mod Tasks
