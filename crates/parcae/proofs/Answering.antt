@@ -8,9 +8,11 @@ use Rattle.parcae.specs.declared.refusal.Refusal.{Refusal}
 use Rattle.parcae.specs.declared.refusal.Stop.{Stop}
 use Rattle.parcae.specs.declared.refusal.Stop.TheVariants as stop
 use Rattle.parcae.specs.declared.refusal.Refusal.TheVariants.{Usage}
-use Rattle.parcae.specs.Words.{Command, seq, check, replay}
+use Rattle.parcae.specs.Words.{Command, seq, check, replay, trial}
 use Rattle.parcae.specs.Texts.{refusal_line}
+use Rattle.parcae.specs.Answers.{EndsIn}
 use Rattle.parcae.specs.Due.{DueOfCommand}
+use Rattle.parcae.specs.Trials.{trial_unbegun}
 use Rattle.fate_io.specs.Reading.{Looked}
 use Rattle.fate_io.specs.Outside.{Outside}
 use Rattle.parcae.specs.Told.{Told}
@@ -34,6 +36,13 @@ pub whole_answer : (due : List (List ℕ) → Way → Type 0) (inner : Way → T
     → (added : List (List ℕ)) × (after ≡ before ++ added) × Ends (due added) sent told
 whole_answer due inner before after sent told e f h = ([], e ∙ sym (append-nil before), ends_as inner (due []) f sent told h)
 
+-- what follows ends as is due of it, and so does all, where no read had failed before
+pub further_answer : (due inner : List (List ℕ) → Way → Type 0) (before : List (List ℕ)) (looked : Looked) (sent : Sent) (told : Told)
+    → looked.failed_before ≡ before → ((added : List (List ℕ)) (way : Way) → inner added way → due added way) → EndsIn inner looked sent told
+    → (added : List (List ℕ)) × (looked.failed ≡ before ++ added) × Ends (due added) sent told
+further_answer due inner before looked sent told e f (added, grown, h) =
+    (added, grown ∙ ap (λ (l : List (List ℕ)). l ++ added) e, ends_as (inner added) (due added) (f added) sent told h)
+
 -- memory ran out before a command was known, and the call gave up
 pub starved_answer : (command : Option Command) (outside : Outside) (sent : Sent) (told : Told) → GivesUp stop.NoMemory sent told
     → Ends (DueOfCommand outside command []) sent told
@@ -45,3 +54,5 @@ starved_answer (Some (check file)) outside sent told h =
     rw h.0 (ends_starved (DueOfCommand outside (Some (check file)) []) sent (starves refl refl) h.1)
 starved_answer (Some (replay task)) outside sent told h =
     rw h.0 (ends_starved (DueOfCommand outside (Some (replay task)) []) sent (starves refl refl) h.1)
+starved_answer (Some (trial number)) outside sent told h =
+    rw h.0 (ends_starved (DueOfCommand outside (Some (trial number)) []) sent (refl, trial_unbegun) h.1)

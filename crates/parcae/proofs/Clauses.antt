@@ -9,25 +9,30 @@ use Rattle.nona_tree.specs.Run.{Ran, meaning_of}
 use Rattle.nona_gen.specs.OfSeen.{planned_image}
 use Rattle.morta_task.specs.Entries.{EntryView}
 use Rattle.morta_task.specs.LogView.{LogView}
+use Rattle.nona_tree.specs.declared.outcomes.Outcome.TheVariants.{Done}
 use Rattle.morta_script.specs.declared.script.Command.{Command as Order}
-use Rattle.weave.specs.Replay.{IsScriptReplay}
 use Rattle.morta_text.specs.Texts.{log_text}
 use Rattle.parcae.specs.declared.refusal.Refusal.TheVariants as refusal
 use Rattle.parcae.specs.declared.refusal.Source.{Source}
 use Rattle.parcae.specs.declared.refusal.Source.TheVariants as source
 use Rattle.parcae.specs.declared.status.Status.TheVariants as status
-use Rattle.parcae.specs.Words.{Task, ReplayTask, Command, seq, check, replay}
+use Rattle.parcae.specs.Words.{Task, Leader, by_script, by_control, ReplayTask, Command, seq, check, replay, trial}
+use Rattle.parcae.specs.Leads.{Lead, IsLedReplay}
+use Rattle.parcae.specs.Trials.{trial_run, trial_entries, IsTrialLog}
+use Rattle.parcae.specs.Summary.{summary_text}
+use Rattle.morta_task.specs.Legal.{EndsAll, last_in}
+use Rattle.parcae.specs.Entered.{entries_in}
 use Rattle.fate_io.specs.Reading.{Held, Looked}
 use Rattle.fate_io.specs.Outside.{outside_of}
 use Rattle.parcae.specs.Codes.{code_of}
 use Rattle.parcae.specs.Texts.{refusal_line}
-use Rattle.parcae.specs.Told.{Told, bare, logged, finished, IsBare}
+use Rattle.parcae.specs.Told.{Told, bare, logged, finished, status_of, IsBare}
 use Rattle.parcae.specs.Ends.{Whole, whole, write_failed, no_memory, unbegun}
-use Rattle.parcae.specs.Files.{limit_of, IsLong, failed, long, text, GivesProgram, GivesInput, GivesScript}
-use Rattle.parcae.specs.Due.{where_asked, entries_in}
-use Rattle.parcae.specs.Answers.{Answers, HoldsProgram, HoldsInput, HoldsScript}
-use Rattle.parcae.specs.Statuses.{OfEachCall, TellsFiles, IsBrokenOff, TellsUsage, HasFault, TellsFault, HasFailedRead, TellsFailedRead, TellsFailedWrite, HasLongFile, TellsLongFile, HasFullLog, TellsFullLog, IsWholeReplay, run_text, HasRunInSequence, HasReplayed, HasReported, TellsMeaning}
-use Rattle.parcae.proofs.Telling.{seq_whole, check_whole, DriveWhole, is_ran, is_full, drive_whole, ended_code, WholeBy, by_words, by_file, by_run, whole_by, runs_code, answered, says_of, refused_code, fault_code, text_code, bad_code, one_source, held_content}
+use Rattle.parcae.specs.Files.{limit_of, IsLong, failed, long, text, GivesProgram, GivesInput, GivesScript, GivesLead}
+use Rattle.parcae.specs.Due.{where_asked}
+use Rattle.parcae.specs.Answers.{Answers, HoldsProgram, HoldsInput, HoldsScript, HoldsLead}
+use Rattle.parcae.specs.Statuses.{OfEachCall, TellsFiles, IsBrokenOff, TellsUsage, HasFault, TellsFault, HasFailedRead, TellsFailedRead, TellsFailedWrite, HasLongFile, TellsLongFile, HasFullLog, TellsFullLog, IsWholeReplay, run_text, HasRunInSequence, HasReplayed, HasReported, HasTried, TellsMeaning}
+use Rattle.parcae.proofs.Telling.{seq_whole, check_whole, DriveWhole, is_ran, is_full, drive_whole, TrialWhole, is_tried, is_full_trial, trial_whole, ended_code, WholeBy, by_words, by_file, by_run, whole_by, runs_code, answered, says_of, refused_code, fault_code, text_code, bad_code, one_source, held_content}
 
 -- a run has none of the statuses between
 run_apart : (code n : ℕ) → (code ≤ 2) ⊎ (code ≡ 18) → 2 < n → n < 18 → code ≢ n
@@ -214,6 +219,18 @@ full_drive tree es ran stands memory log sent told printed later e sends (is_ful
   text = subst (λ (t : List ℕ). Appends sent.before sent.after t) (rw (ep, el) refl) sends;
 }
 
+full_trial : (n : ℕ) (sent : Sent) (told : Told) (printed later : List ℕ)
+    → code_of told.status ≡ 18 → Appends sent.before sent.after (printed ++ later) → TrialWhole n told printed later → HasFullLog sent told
+full_trial n sent told printed later e sends (is_tried l s ends er ep el) =
+    let low : code_of told.status ≤ 2 = subst (λ (t : Told). code_of t.status ≤ 2) (sym er) (ended_code (trial_run n).end) in
+    absurd (omega (arith, e, low))
+full_trial n sent told printed later e sends (is_full_trial l few er ep el) = record {
+  full = ap (λ (t : Told). length t.log.intervals) er ∙ few;
+  bare = record { outcome = ap (λ (t : Told). t.outcome) er; store = ap (λ (t : Told). t.store) er };
+  printed = [];
+  text = subst (λ (t : List ℕ). Appends sent.before sent.after t) (rw (ep, el) refl) sends;
+}
+
 full_by : (command : Option Command) (looked : Looked) (sent : Sent) (told : Told) (added : List (List ℕ)) (printed later : List ℕ)
     → code_of told.status ≡ 18 → Appends sent.before sent.after (printed ++ later) → WholeBy command looked added told printed later → HasFullLog sent told
 full_by command looked sent told added printed later e sends (by_words none w) = absurd (omega (arith, e, words_code told printed later w))
@@ -228,8 +245,10 @@ full_by (Some (check file)) looked sent told added printed later e sends (by_run
     let w = check_whole tree _ told printed later d refl in
     let is : code_of told.status ≡ 0 = ap (λ (t : Told). code_of t.status) w.0 in
     absurd (omega (arith, e, is))
-full_by (Some (replay task)) looked sent told added printed later e sends (by_run (tree, numbers, commands, g, h, k, d)) =
+full_by (Some (replay task)) looked sent told added printed later e sends (by_run (tree, numbers, lead, g, h, k, d)) =
     full_drive _ _ _ _ _ _ sent told printed later e sends (drive_whole _ _ _ _ _ _ _ told printed later d refl)
+full_by (Some (trial number)) looked sent told added printed later e sends (by_run d) =
+    full_trial number sent told printed later e sends (trial_whole number _ told printed later d refl)
 
 pub tells_full : OfEachCall TellsFullLog
 tells_full command looked sent told answers = λ e.
@@ -246,6 +265,11 @@ holds_input looked (Some file) numbers tells g = (g.0, (held_content source.Inpu
 
 holds_script : (looked : Looked) (file : List ℕ) (commands : List Order) → TellsFiles looked → GivesScript (outside_of looked) file commands → HoldsScript looked file commands
 holds_script looked file commands tells g = (g.0, (held_content source.Script (looked.held file) g.0 (tells file) g.1, g.1.0), g.2)
+
+holds_lead : (looked : Looked) (links : ℕ) (leader : Leader) (lead : Lead) → TellsFiles looked → GivesLead (outside_of looked) links leader lead
+    → HoldsLead looked links leader lead
+holds_lead looked links (by_script file) lead tells g = (g.0, holds_script looked file g.0 tells g.1, g.2)
+holds_lead looked links (by_control workers) lead tells g = g
 
 -- 0, 1 and 2 of a run in one thread
 seq_by : (task : Task) (looked : Looked) (sent : Sent) (told : Told) (added : List (List ℕ)) (printed later : List ℕ)
@@ -280,28 +304,28 @@ check_by file looked sent told added printed later tells le sends (by_run (tree,
     }
 
 -- the same of a run in intervals
-drive_by : (task : ReplayTask) (looked : Looked) (sent : Sent) (told : Told) (printed later : List ℕ) (tree : Program) (numbers : List ℤ) (commands : List Order)
+drive_by : (task : ReplayTask) (looked : Looked) (sent : Sent) (told : Told) (printed later : List ℕ) (tree : Program) (numbers : List ℤ) (lead : Lead)
     → code_of told.status ≤ 2 → Appends sent.before sent.after (printed ++ later)
-    → HoldsProgram looked task.run.file tree → HoldsInput looked task.run.input numbers → HoldsScript looked task.script commands
+    → HoldsProgram looked task.run.file tree → HoldsInput looked task.run.input numbers → HoldsLead looked task.links task.leader lead
     → DriveWhole tree (entries_in (planned_image tree) tree numbers task.run.turns) (meaning_of tree numbers task.run.turns)
-    (IsScriptReplay task.links commands (entries_in (planned_image tree) tree numbers task.run.turns)) task.run.memory task.log told printed later
+    (IsLedReplay lead task.links (entries_in (planned_image tree) tree numbers task.run.turns)) task.run.memory task.log told printed later
     → HasReplayed task looked sent told
-drive_by task looked sent told printed later tree numbers commands le sends program input orders (is_ran l s ends er ep el) =
+drive_by task looked sent told printed later tree numbers lead le sends program input led (is_ran l s ends er ep el) =
     let ran = meaning_of tree numbers task.run.turns in
     let el2 : l ≡ told.log = ap (λ (t : Told). t.log) (sym er) in record {
       tree = tree;
       numbers = numbers;
-      commands = commands;
+      lead = lead;
       program = program;
       input = input;
-      orders = orders;
-      replay = subst (λ (x : LogView). IsWholeReplay task.links commands (entries_in (planned_image tree) tree numbers task.run.turns) x) el2
+      led = led;
+      replay = subst (λ (x : LogView). IsWholeReplay task.links lead (entries_in (planned_image tree) tree numbers task.run.turns) x) el2
           (record { whole = record { legal = s.legal; ended = ends }; replayed = s.replayed });
       report = er ∙ ap (finished ran) el2;
       text = subst (λ (x : LogView). Appends sent.before sent.after (run_text tree ran task.run.memory (where_asked task.log (log_text x)))) el2
           (subst (λ (t : List ℕ). Appends sent.before sent.after t) (rw (ep, el) refl) sends);
     }
-drive_by task looked sent told printed later tree numbers commands le sends program input orders (is_full l m few er ep el) =
+drive_by task looked sent told printed later tree numbers lead le sends program input led (is_full l m few er ep el) =
     let is : code_of told.status ≡ 18 = ap (λ (t : Told). code_of t.status) er in
     absurd (omega (arith, is, le))
 
@@ -311,10 +335,39 @@ replay_by : (task : ReplayTask) (looked : Looked) (sent : Sent) (told : Told) (a
 replay_by task looked sent told added printed later tells le sends (by_words none w) = absurd (omega (arith, le, words_code told printed later w))
 replay_by task looked sent told added printed later tells le sends (by_file s file r names bad w) =
     absurd (omega (arith, le, refused_code r told printed later w, (bad_code s (outside_of looked) file added r bad).0))
-replay_by task looked sent told added printed later tells le sends (by_run (tree, numbers, commands, g, h, k, d)) =
-    drive_by task looked sent told printed later tree numbers commands le sends
-    (holds_program looked task.run.file tree tells g) (holds_input looked task.run.input numbers tells h) (holds_script looked task.script commands tells k)
+replay_by task looked sent told added printed later tells le sends (by_run (tree, numbers, lead, g, h, k, d)) =
+    drive_by task looked sent told printed later tree numbers lead le sends
+    (holds_program looked task.run.file tree tells g) (holds_input looked task.run.input numbers tells h) (holds_lead looked task.links task.leader lead tells k)
     (drive_whole _ _ _ _ _ _ _ told printed later d refl)
+
+-- a trial's run ends without a trap, and no loop is out of turns
+abbrev pub TrialsEnd : Type 0
+TrialsEnd = (n : ℕ) → (trial_run n).end ≡ Done
+
+-- 0 of a trial
+tried_by : TrialsEnd → (n : ℕ) (sent : Sent) (told : Told) (printed later : List ℕ) → code_of told.status ≤ 2
+    → Appends sent.before sent.after (printed ++ later) → TrialWhole n told printed later → HasTried n sent told
+tried_by all_end n sent told printed later le sends (is_tried l s ends er ep el) =
+    let is : l ≡ told.log = ap (λ (t : Told). t.log) (sym er) in
+    let written = subst (λ (t : List ℕ). Appends sent.before sent.after t) (rw (ep, el) refl) sends in record {
+      done = ap (λ (t : Told). t.status) er ∙ ap status_of (all_end n);
+      report = er ∙ ap (finished (trial_run n)) is;
+      replay = subst (IsTrialLog n) is s;
+      ended = subst (λ (x : LogView). EndsAll (trial_entries n) (last_in x.intervals)) is ends;
+      text = subst (λ (x : LogView). Appends sent.before sent.after (summary_text n (trial_run n).store x)) is written;
+    }
+tried_by all_end n sent told printed later le sends (is_full_trial l few er ep el) =
+    let full : code_of told.status ≡ 18 = ap (λ (t : Told). code_of t.status) er in
+    absurd (omega (arith, full, le))
+
+trial_by : TrialsEnd → (n : ℕ) (looked : Looked) (sent : Sent) (told : Told) (added : List (List ℕ)) (printed later : List ℕ)
+    → code_of told.status ≤ 2 → Appends sent.before sent.after (printed ++ later)
+    → WholeBy (Some (trial n)) looked added told printed later → HasTried n sent told
+trial_by all_end n looked sent told added printed later le sends (by_words none w) = absurd (omega (arith, le, words_code told printed later w))
+trial_by all_end n looked sent told added printed later le sends (by_file s f r names bad w) =
+    absurd (omega (arith, le, refused_code r told printed later w, (bad_code s (outside_of looked) f added r bad).0))
+trial_by all_end n looked sent told added printed later le sends (by_run d) =
+    tried_by all_end n sent told printed later le sends (trial_whole n _ told printed later d refl)
 
 -- words that are no command have no status of a run
 no_meaning : (looked : Looked) (sent : Sent) (told : Told) → (code_of told.status ≡ 10) ⊎ IsBrokenOff told → 2 < code_of told.status
@@ -322,14 +375,17 @@ no_meaning looked sent told (inl e) = omega (arith, e)
 no_meaning looked sent told (inr (inl e)) = omega (arith, e)
 no_meaning looked sent told (inr (inr e)) = omega (arith, e)
 
-pub tells_meaning : OfEachCall TellsMeaning
-tells_meaning None looked sent told answers = no_meaning looked sent told (usage_always looked sent told answers)
-tells_meaning (Some (seq task)) looked sent told answers = λ tells le.
+pub tells_meaning : TrialsEnd → OfEachCall TellsMeaning
+tells_meaning all_end None looked sent told answers = no_meaning looked sent told (usage_always looked sent told answers)
+tells_meaning all_end (Some (seq task)) looked sent told answers = λ tells le.
     let a = answered (Some (seq task)) looked sent told (λ f. omega (arith, le, f)) (λ f. omega (arith, le, f)) answers in
     seq_by task looked sent told a.added a.printed a.later tells le a.sends a.by
-tells_meaning (Some (check file)) looked sent told answers = λ tells le.
+tells_meaning all_end (Some (check file)) looked sent told answers = λ tells le.
     let a = answered (Some (check file)) looked sent told (λ f. omega (arith, le, f)) (λ f. omega (arith, le, f)) answers in
     check_by file looked sent told a.added a.printed a.later tells le a.sends a.by
-tells_meaning (Some (replay task)) looked sent told answers = λ tells le.
+tells_meaning all_end (Some (replay task)) looked sent told answers = λ tells le.
     let a = answered (Some (replay task)) looked sent told (λ f. omega (arith, le, f)) (λ f. omega (arith, le, f)) answers in
     replay_by task looked sent told a.added a.printed a.later tells le a.sends a.by
+tells_meaning all_end (Some (trial number)) looked sent told answers = λ le.
+    let a = answered (Some (trial number)) looked sent told (λ f. omega (arith, le, f)) (λ f. omega (arith, le, f)) answers in
+    trial_by all_end number looked sent told a.added a.printed a.later le a.sends a.by

@@ -15,15 +15,16 @@ use Rattle.parcae.specs.declared.refusal.Refusal.{Refusal}
 use Rattle.parcae.specs.declared.refusal.Source.{Source}
 use Rattle.parcae.specs.declared.refusal.Source.TheVariants as source
 use Rattle.parcae.specs.declared.status.Status.TheVariants.{NoMemory}
-use Rattle.parcae.specs.Words.{Task, ReplayTask, Command, seq, check, replay}
+use Rattle.parcae.specs.Words.{Task, Leader, by_script, by_control, ReplayTask, Command, seq, check, replay, trial}
+use Rattle.parcae.specs.Leads.{Lead, script_leads}
 use Rattle.parcae.specs.Told.{Told}
 use Rattle.parcae.specs.Accepted.{IsAccepted}
 use Rattle.fate_io.specs.Reading.{Held, Looked}
 use Rattle.fate_io.specs.Outside.{Outside, outside_of}
 use Rattle.parcae.specs.Ends.{Way, Whole, Unbegun, Ends, whole, write_failed, no_memory, unbegun}
-use Rattle.parcae.specs.Files.{limit_of, IsContent, IsLong, Refuses, IsBad, failed, long, text, RefusesInput, input_token, input_count, RefusesScript, script_line, GivesProgram, GivesInput, NoInput, GivesScript, DueOf, stops, starves, follows}
-use Rattle.parcae.specs.Due.{DueOfSeq, DueOfCheck, DueOfReplay, DueOfCommand}
-use Rattle.parcae.specs.Answers.{Answers, HoldsProgram, HoldsInput, HoldsScript, EndsWhole, IsComplete}
+use Rattle.parcae.specs.Files.{limit_of, IsContent, IsLong, Refuses, IsBad, failed, long, text, RefusesInput, input_token, input_count, RefusesScript, script_line, GivesProgram, GivesInput, NoInput, GivesScript, GivesLead, NoLead, DueOf, stops, starves, follows}
+use Rattle.parcae.specs.Due.{DueOfSeq, DueOfCheck, DueOfTask, DueOfCommand}
+use Rattle.parcae.specs.Answers.{Answers, HoldsProgram, HoldsInput, HoldsScript, HoldsLead, EndsWhole, IsComplete}
 use Rattle.parcae.proofs.Accepting.{one_accepted, not_refused}
 
 -- where nothing failed, a call ends whole
@@ -115,6 +116,17 @@ only_script looked file commands h y g =
     let is : Ok y ≡ Ok commands = sym g.2 ∙ ap commands_of same ∙ h.2 in
     cc
 
+never_lead : (looked : Looked) (links : ℕ) (leader : Leader) (lead : Lead) (added : List (List ℕ)) → added ≡ []
+    → HoldsLead looked links leader lead → (r : Refusal) → NoLead (outside_of looked) leader added r → ⊥
+never_lead looked links (by_script file) lead added none h r bad = never_script looked file h.0 added none h.1 r bad
+never_lead looked links (by_control workers) lead added none h r bad = bad
+
+only_lead : (looked : Looked) (links : ℕ) (leader : Leader) (lead : Lead) → HoldsLead looked links leader lead
+    → (y : Lead) → GivesLead (outside_of looked) links leader y → y ≡ lead
+only_lead looked links (by_script file) lead h y g =
+    g.2 ∙ ap (script_leads links) (only_script looked file h.0 h.1 g.0 g.1) ∙ sym h.2
+only_lead looked links (by_control workers) lead h y g = g ∙ sym h
+
 -- what is due of a run of held files, where no read failed
 pub seq_due : ((bytes : List ℕ) → One bytes) → (task : Task) (looked : Looked) (tree : Program) (numbers : List ℤ) (added : List (List ℕ)) (way : Way)
     → added ≡ [] → HoldsProgram looked task.file tree → HoldsInput looked task.input numbers → way ≢ Unbegun empty_log
@@ -131,14 +143,14 @@ check_due one file looked tree added way none program apart due =
     due_follows _ _ _ added way tree (never_program looked file tree added one none program) (only_program looked file tree one program) apart due
 
 -- what is due of a replay of held files, where no read failed
-pub replay_due : ((bytes : List ℕ) → One bytes) → (task : ReplayTask) (looked : Looked) (tree : Program) (numbers : List ℤ) (commands : List Order) (added : List (List ℕ)) (way : Way)
-    → added ≡ [] → HoldsProgram looked task.run.file tree → HoldsInput looked task.run.input numbers → HoldsScript looked task.script commands
+pub replay_due : ((bytes : List ℕ) → One bytes) → (task : ReplayTask) (looked : Looked) (tree : Program) (numbers : List ℤ) (lead : Lead) (added : List (List ℕ)) (way : Way)
+    → added ≡ [] → HoldsProgram looked task.run.file tree → HoldsInput looked task.run.input numbers → HoldsLead looked task.links task.leader lead
     → way ≢ Unbegun empty_log → DueOfCommand (outside_of looked) (Some (replay task)) added way
-    → (added ≡ []) × DueOfReplay tree numbers commands task.run.turns task.links task.run.memory task.log way
-replay_due one task looked tree numbers commands added way none program inputs scripts apart due =
+    → (added ≡ []) × DueOfTask tree numbers lead task way
+replay_due one task looked tree numbers lead added way none program inputs leads apart due =
     let file = task.run.file in
     let input = task.run.input in
-    due_follows _ _ _ added way commands (never_script looked task.script commands added none scripts) (only_script looked task.script commands scripts) apart
+    due_follows _ _ _ added way lead (never_lead looked task.links task.leader lead added none leads) (only_lead looked task.links task.leader lead leads) apart
     (due_follows _ _ _ added way numbers (never_input looked input numbers added none inputs) (only_input looked input numbers inputs) apart
     (due_follows _ _ _ added way tree (never_program looked file tree added one none program) (only_program looked file tree one program) apart due))
 
@@ -160,8 +172,11 @@ completes one (Some (check file)) looked sent told (added, grown, e) = λ tree p
     let w = ends_whole _ sent told calm.puts calm.memory e in
     let ran = check_due one file looked tree added _ none program (whole_apart told w.0 w.1 empty_log) w.2 in
     (w.0, w.1, ran.1, w.3)
-completes one (Some (replay task)) looked sent told (added, grown, e) = λ tree numbers commands program inputs scripts calm.
+completes one (Some (replay task)) looked sent told (added, grown, e) = λ tree numbers lead program inputs leads calm.
     let none : added ≡ [] = none_added looked.failed_before added (sym calm.reads ∙ grown) in
     let w = ends_whole _ sent told calm.puts calm.memory e in
-    let ran = replay_due one task looked tree numbers commands added _ none program inputs scripts (whole_apart told w.0 w.1 empty_log) w.2 in
+    let ran = replay_due one task looked tree numbers lead added _ none program inputs leads (whole_apart told w.0 w.1 empty_log) w.2 in
     (w.0, w.1, ran.1, w.3)
+completes one (Some (trial number)) looked sent told (added, grown, e) = λ calm.
+    let w = ends_whole _ sent told calm.puts calm.memory e in
+    (w.0, w.1, w.2.1, w.3)

@@ -1,5 +1,5 @@
 -- What is told of a call that was broken off, by what was written.
-use Rattle.std.proofs.Common.{◌≡◌, ◌≢◌, ◌⊎◌, ℕ, ◌≤◌, Bool, ℤ, List, [], ◌++◌, length, length-append, ap, sym, refl, ◌∙◌, subst, None, Some, inl, inr, arith}
+use Rattle.std.proofs.Common.{◌≡◌, ◌≢◌, ◌⊎◌, ℕ, ◌≤◌, Bool, ℤ, List, [], ◌∷◌, ◌++◌, length, length-append, ap, sym, refl, ◌∙◌, subst, None, Some, inl, inr, arith}
 use Rattle.std.proofs.lemmas.List.{append_cancel_left}
 use Rattle.std.proofs.lemmas.List.Concat.{flat_map-append}
 use Rattle.std.specs.declared.option.Option.{Option}
@@ -19,16 +19,18 @@ use Rattle.morta_exec.specs.Places.{most}
 use Rattle.parcae.specs.declared.refusal.Refusal.TheVariants as refusal
 use Rattle.parcae.specs.declared.status.Status.{Status}
 use Rattle.parcae.specs.declared.status.Status.TheVariants as status
-use Rattle.parcae.specs.Words.{seq, check, replay}
+use Rattle.parcae.specs.Words.{seq, check, replay, trial}
+use Rattle.parcae.specs.Trials.{trial_run, DueOfTrial, trial_ran, trial_full, trial_broken, trial_unbegun}
+use Rattle.parcae.specs.Summary.{summary_text}
 use Rattle.parcae.specs.Texts.{refusal_line, refusal_status}
 use Rattle.parcae.specs.Told.{Told, bare, finished, IsBare, Keeps}
 use Rattle.parcae.specs.Ends.{Way, Whole, Early, Unbegun, Breaks, within, behind, whole, write_failed, no_memory, unbegun}
 use Rattle.parcae.specs.Due.{DueOfSeq, seq_ran, seq_broken, seq_unbegun, DueOfCheck, check_ran, check_unbegun, DueOfDrive, drive_ran, drive_full, drive_broken, drive_unbegun, DueOfCommand}
 use Rattle.parcae.specs.Files.{stops, starves, follows}
 use Rattle.parcae.specs.Answers.{Answers, HoldsProgram}
-use Rattle.parcae.specs.Statuses.{OfEachCall, IsCut, IsCutBy, IsFront, TellsFront}
+use Rattle.parcae.specs.Statuses.{OfEachCall, IsCut, IsCutBy, IsFront, IsCutTrial, before_summary, in_summary, in_full_log, TellsFront}
 use Rattle.parcae.proofs.Completing.{One, none_added, seq_due, check_due, replay_due, whole_apart}
-use Rattle.parcae.proofs.Telling.{seq_whole, check_whole, DriveWhole, is_ran, is_full, drive_whole, whole_by}
+use Rattle.parcae.proofs.Telling.{seq_whole, check_whole, DriveWhole, is_ran, is_full, drive_whole, TrialWhole, is_tried, is_full_trial, trial_whole, whole_by}
 use Rattle.parcae.proofs.Clauses.{whole_code}
 
 -- the bytes that were written, where the sink tells them
@@ -113,6 +115,40 @@ drive_cut tree es ran stands memory asked sent told front written eb ea (within 
 drive_cut tree es ran stands memory asked sent told front written eb ea (behind report printed later w rest d e h k) =
     let same : written ≡ printed ++ w = same_written sent.before sent.after front written (printed ++ w) eb ea h in
     drive_behind tree es ran stands memory asked report told printed later written w same k (drive_whole tree es ran stands memory asked _ report printed later d refl)
+
+-- what is due of a trial, early
+trial_early : (n : ℕ) (way : Way) (log : LogView) (printed : List ℕ) → DueOfTrial n way → way ≡ Early log printed → printed ≡ []
+trial_early n way log printed (trial_ran l s ends few) e = cc
+trial_early n way log printed (trial_full l s why) e = cc
+trial_early n way log printed (trial_broken l s few) e = cc
+trial_early n way log printed trial_unbegun e = cc
+
+-- the summary of a trial was broken off, or the line of a full log
+trial_behind : (n : ℕ) (report told : Told) (printed later written w rest : List ℕ) → written ≡ printed ++ w → later ≡ w ++ rest
+    → Keeps report told → TrialWhole n report printed later → IsCutTrial n written told
+trial_behind n report told printed later written w rest same e k (is_tried l s ends er ep el) =
+    let alone : written ≡ w = same ∙ ap (λ (x : List ℕ). x ++ w) ep in
+    let log : l ≡ told.log = sym (k.log ∙ ap (λ (t : Told). t.log) er) in
+    let front : summary_text n (trial_run n).store l ≡ written ++ rest = sym el ∙ e ∙ ap (λ (x : List ℕ). x ++ rest) (sym alone) in
+    in_summary (k.outcome ∙ ap (λ (t : Told). t.outcome) er) (k.store ∙ ap (λ (t : Told). t.store) er)
+    (rest, subst (λ (x : LogView). summary_text n (trial_run n).store x ≡ written ++ rest) log front)
+trial_behind n report told printed later written w rest same e k (is_full_trial l few er ep el) =
+    in_full_log (record { outcome = k.outcome ∙ ap (λ (t : Told). t.outcome) er; store = k.store ∙ ap (λ (t : Told). t.store) er })
+    (ap (λ (x : LogView). length x.intervals) (k.log ∙ ap (λ (t : Told). t.log) er) ∙ few)
+
+-- nothing is a front of nothing alone
+front_of_none : (written rest : List ℕ) → [] ≡ written ++ rest → written ≡ []
+front_of_none [] rest e = refl
+front_of_none (x ∷ xs) rest e = cc
+
+trial_cut : (n : ℕ) (sent : Sent) (told : Told) (front written : List ℕ)
+    → sent.before ≡ Some front → sent.after ≡ Some (front ++ written) → Breaks (DueOfTrial n) sent told → IsCutTrial n written told
+trial_cut n sent told front written eb ea (within printed w rest d e h b) =
+    let same : written ≡ w = same_written sent.before sent.after front written w eb ea h in
+    before_summary b (same ∙ front_of_none w rest (sym (trial_early n _ told.log printed d refl) ∙ e))
+trial_cut n sent told front written eb ea (behind report printed later w rest d e h k) =
+    let same : written ≡ printed ++ w = same_written sent.before sent.after front written (printed ++ w) eb ea h in
+    trial_behind n report told printed later written w rest same e k (trial_whole n _ report printed later d refl)
 
 -- memory ran out before a run, and nothing was written
 cut_before : (ran : Ran) (sent : Sent) (told : Told) (front written : List ℕ) → sent.before ≡ Some front → sent.after ≡ Some (front ++ written)
@@ -219,15 +255,23 @@ tells_front one (Some (seq task)) looked sent told (added, grown, unbegun e d h 
     cut_before (meaning_of tree numbers task.turns) sent told cut.front written cut.before cut.after h b
 tells_front one (Some (check file)) looked sent told answers =
     (check_answer file looked sent told answers, λ tree written program cut. check_front one file looked sent told tree written program cut answers)
-tells_front one (Some (replay task)) looked sent told (added, grown, whole p l d h) = λ tree numbers commands written program inputs scripts cut.
+tells_front one (Some (replay task)) looked sent told (added, grown, whole p l d h) = λ tree numbers lead written program inputs leads cut.
     absurd (whole_code (Some (replay task)) looked added told p l (whole_by (Some (replay task)) looked added told p l d) cut.broken)
-tells_front one (Some (replay task)) looked sent told (added, grown, write_failed e b rose) = λ tree numbers commands written program inputs scripts cut.
+tells_front one (Some (replay task)) looked sent told (added, grown, write_failed e b rose) = λ tree numbers lead written program inputs leads cut.
     let none : added ≡ [] = none_added looked.failed_before added (sym cut.reads ∙ grown) in
     drive_cut _ _ (meaning_of tree numbers task.run.turns) _ _ _ sent told cut.front written cut.before cut.after
-    (breaks_due _ _ (λ way apart d. (replay_due one task looked tree numbers commands added way none program inputs scripts apart d).1) sent told b)
-tells_front one (Some (replay task)) looked sent told (added, grown, no_memory e b) = λ tree numbers commands written program inputs scripts cut.
+    (breaks_due _ _ (λ way apart d. (replay_due one task looked tree numbers lead added way none program inputs leads apart d).1) sent told b)
+tells_front one (Some (replay task)) looked sent told (added, grown, no_memory e b) = λ tree numbers lead written program inputs leads cut.
     let none : added ≡ [] = none_added looked.failed_before added (sym cut.reads ∙ grown) in
     drive_cut _ _ (meaning_of tree numbers task.run.turns) _ _ _ sent told cut.front written cut.before cut.after
-    (breaks_due _ _ (λ way apart d. (replay_due one task looked tree numbers commands added way none program inputs scripts apart d).1) sent told b)
-tells_front one (Some (replay task)) looked sent told (added, grown, unbegun e d h b) = λ tree numbers commands written program inputs scripts cut.
+    (breaks_due _ _ (λ way apart d. (replay_due one task looked tree numbers lead added way none program inputs leads apart d).1) sent told b)
+tells_front one (Some (replay task)) looked sent told (added, grown, unbegun e d h b) = λ tree numbers lead written program inputs leads cut.
     inr (cut_before (meaning_of tree numbers task.run.turns) sent told cut.front written cut.before cut.after h b)
+tells_front one (Some (trial number)) looked sent told (added, grown, whole p l d h) = λ written cut.
+    absurd (whole_code (Some (trial number)) looked added told p l (whole_by (Some (trial number)) looked added told p l d) cut.broken)
+tells_front one (Some (trial number)) looked sent told (added, grown, write_failed e b rose) = λ written cut.
+    trial_cut number sent told cut.front written cut.before cut.after (breaks_due _ _ (λ way apart d. d.1) sent told b)
+tells_front one (Some (trial number)) looked sent told (added, grown, no_memory e b) = λ written cut.
+    trial_cut number sent told cut.front written cut.before cut.after (breaks_due _ _ (λ way apart d. d.1) sent told b)
+tells_front one (Some (trial number)) looked sent told (added, grown, unbegun e d h b) = λ written cut.
+    before_summary b (same_written sent.before sent.after cut.front written [] cut.before cut.after h)

@@ -4,6 +4,8 @@ pub mod Answering
 pub mod Completing
 pub mod Loading
 pub mod Replaying
+pub mod Summing
+pub mod Trying
 pub mod Telling
 pub mod Clauses
 pub mod Fronting

@@ -1,8 +1,7 @@
 -- How the end of a replay follows from that of its drive.
-use Rattle.std.proofs.Common.{◌≡◌, ◌≤◌, ℕ, ℤ, List, [], ◌∷◌, length, ap, sym, refl, ◌∙◌, subst, None, Some, ◌⊎◌, inl, inr, zero, suc, Bool, IsTrue}
-use Rattle.std.specs.Prelude.{map, slice_get, Result, Ok, Err, IfOk}
+use Rattle.std.proofs.Common.{◌≡◌, ◌≤◌, ℕ, ℤ, List, [], ◌∷◌, ◌++◌, length, ap, sym, refl, ◌∙◌, subst, None, Some, Bool, zero, suc}
+use Rattle.std.specs.Prelude.{map, slice_get}
 use Rattle.std.specs.declared.option.Option.{Option}
-use Rattle.fate_io.specs.Sending.{Sent}
 use Rattle.nona_tree.specs.declared.trees.Program.{Program}
 use Rattle.nona_tree.specs.Memory.{Memory}
 use Rattle.nona_tree.specs.Run.{Ran, start_of, meaning_of}
@@ -12,30 +11,40 @@ use Rattle.nona_tree.specs.Entries.{regions_all}
 use Rattle.nona_plans.specs.Plans.{IsLawfulPlan, plan_of}
 use Rattle.nona_stages.specs.Seen.{is_parallel}
 use Rattle.nona_gen.specs.OfSeen.{by_plan, planned_image}
+use Rattle.morta_task.specs.declared.both.Both.{Both}
+use Rattle.morta_task.specs.declared.intervals.Interval.{Interval}
+use Rattle.morta_task.specs.declared.schemes.Ask.{Ask}
 use Rattle.morta_task.specs.declared.schemes.Scheme.{Scheme}
 use Rattle.morta_task.specs.declared.schemes.Scheme.TheVariants.{Seq, Any, Pipe}
 use Rattle.morta_task.specs.RegionView.{RegionView}
 use Rattle.morta_task.specs.Entries.{EntryView}
 use Rattle.morta_task.specs.ImageView.{ImageView}
-use Rattle.morta_task.specs.LogView.{LogView}
+use Rattle.morta_task.specs.Legal.{EachFrom, IsLegal, IsLegalLog, log_of}
+use Rattle.morta_task.specs.LogView.{LogView, empty_log}
+use Rattle.morta_task.specs.Running.{seq_one}
+use Rattle.morta_control.specs.ControllerPromise.{MayBeAsked}
+use Rattle.morta_control.specs.ControllerView.{ControllerView, new_controller}
+use Rattle.morta_control.specs.Decisions.{control_asks}
 use Rattle.morta_script.specs.declared.script.Command.{Command as Order}
-use Rattle.weave.specs.Replay.{IsScriptReplay}
+use Rattle.weave.specs.Replay.{IsReplayOf}
 use Rattle.weave.specs.Serving.{RunsIn}
 use Rattle.weave.specs.WeaveView.{WeaveView}
-use Rattle.weave.specs.WeavePromise.{weave_promise}
+use Rattle.weave.specs.WeavePromise.{StandsFor, weave_promise}
 use Rattle.morta_text.specs.Texts.{number_lines}
 use Rattle.morta_exec.specs.Began.{entries_from, run_from}
 use Rattle.morta_exec.specs.declared.start.Beginning.{Beginning}
-use Rattle.morta_exec.specs.Log.{ServesAll, LogStands}
+use Rattle.morta_exec.specs.Log.{LogStands}
 use Rattle.morta_exec.specs.Places.{most}
 use Rattle.morta_exec.specs.declared.fault.DriveFault.{DriveFault}
 use Rattle.morta_exec.specs.declared.fault.DriveFault.TheVariants as drive
-use Rattle.morta_exec.specs.Drive.{StopsShort, RunStops}
+use Rattle.morta_exec.specs.Drive.{StopsShort}
 use Rattle.parcae.specs.declared.status.Status.TheVariants as status
 use Rattle.parcae.specs.Texts.{full_line}
 use Rattle.parcae.specs.Told.{Told, logged}
-use Rattle.parcae.specs.Ends.{within, Ends, write_failed, no_memory, SendsReport}
-use Rattle.parcae.specs.Due.{entries_in, DueOfDrive, drive_full, drive_broken}
+use Rattle.parcae.specs.Ends.{Way, within, Ends, write_failed, no_memory, IsStill, EndsShort}
+use Rattle.parcae.specs.Entered.{entries_in}
+use Rattle.parcae.specs.Leads.{script_leads, control_leads, control_promise, IsLedSo}
+use Rattle.parcae.specs.Due.{DueOfDrive, drive_full, drive_broken}
 use Rattle.parcae.proofs.Ending.{ends_behind}
 
 -- what an option has, or the other one
@@ -56,38 +65,40 @@ runs_in l plan Seq lawful = tt
 runs_in l plan Any lawful = lawful
 runs_in l plan Pipe lawful = lawful
 
--- a replay serves all regions with lawful plans
-pub serves_all : (w : WeaveView) (p : Program) (image : ImageView) → image ≡ planned_image p
-    → ((l : Loop) → IsLawfulPlan l (plan_of l)) → ServesAll weave_promise w image
-serves_all w p image is lawful region code s there asked =
-    let planned = planned_there (regions_all is_parallel p.body) region code (ap (λ (i : ImageView). slice_get i.regions region) (sym is) ∙ there) in
+-- each region of a program with lawful plans is served in each version
+pub serves_all : (p : Program) → ((l : Loop) → IsLawfulPlan l (plan_of l)) → (region : ℕ) (code : RegionView) (s : Scheme)
+    → slice_get (planned_image p).regions region ≡ Some code → RunsIn code.looped code.plan s
+serves_all p lawful region code s there =
+    let planned = planned_there (regions_all is_parallel p.body) region code there in
     runs_in code.looped code.plan s (subst (IsLawfulPlan code.looped) (sym planned) (lawful code.looped))
 
--- a drive whose log stands was broken off by the sink
-pub ends_write : (tree : Program) (es : List EntryView) (ran : Ran) (stands : LogView → Type 0) (memory asked : Bool) (log : LogView) (sent : Sent)
-    → stands log → length log.intervals ≤ most → StopsShort es ran.store log.intervals sent drive.WriteFailed
-    → Ends (DueOfDrive tree es ran stands memory asked) sent (logged status.WriteFailed log)
-ends_write tree es ran stands memory asked log sent s few h =
-    write_failed refl (within (number_lines h.place.printed) h.put.0 h.put.1 (drive_broken log h.place s few h.behind h.printed) h.put.2 h.put.3
-    (record { outcome = refl; store = refl })) h.cause
+-- nothing was written and no put failed from here on, so an end here is one there
+pub ends_still : (due : Way → Type 0) (a b c : Option (List ℕ)) (f g h : ℕ) (report told : Told) → told ≡ report
+    → IsStill (record { before = b; after = c; faults_before = g; faults = h })
+    → Ends due (record { before = a; after = b; faults_before = f; faults = g }) report
+    → Ends due (record { before = a; after = c; faults_before = f; faults = h }) told
+ends_still due a b c f g h report told is still e =
+    subst (λ (t : Told). Ends due (record { before = a; after = c; faults_before = f; faults = h }) t) (sym is)
+    (subst (λ (n : ℕ). Ends due (record { before = a; after = c; faults_before = f; faults = n }) report) (sym still.faults)
+    (subst (λ (w : Option (List ℕ)). Ends due (record { before = a; after = w; faults_before = f; faults = g }) report) (sym still.written) e))
 
--- the same for want of memory
-pub ends_memory : (tree : Program) (es : List EntryView) (ran : Ran) (stands : LogView → Type 0) (memory asked : Bool) (log : LogView) (sent : Sent)
-    → stands log → length log.intervals ≤ most → StopsShort es ran.store log.intervals sent drive.NoMemory
-    → Ends (DueOfDrive tree es ran stands memory asked) sent (logged status.NoMemory log)
-ends_memory tree es ran stands memory asked log sent s few h =
-    no_memory refl (within (number_lines h.place.printed) h.put.0 h.put.1 (drive_broken log h.place s few h.behind h.printed) h.put.2 h.put.3
-    (record { outcome = refl; store = refl }))
-
--- the log of a drive is full, and its line was sent
-pub ends_full : (tree : Program) (es : List EntryView) (ran : Ran) (stands : LogView → Type 0) (memory asked : Bool) (log : LogView)
-    (a b c : Option (List ℕ)) (f g h : ℕ) (told : Told)
-    → stands log → StopsShort es ran.store log.intervals (record { before = a; after = b; faults_before = f; faults = g }) drive.LogFull → f ≤ g
-    → SendsReport (record { before = b; after = c; faults_before = g; faults = h }) (logged status.LogFull log) full_line told
+-- a drive whose log stands stopped short, and the call reported why
+pub ends_stopped : (tree : Program) (es : List EntryView) (ran : Ran) (stands : LogView → Type 0) (memory asked : Bool) (log : LogView)
+    (a b c : Option (List ℕ)) (f g h : ℕ) (fault : DriveFault) (told : Told)
+    → stands log → length log.intervals ≤ most → StopsShort es ran.store log.intervals (record { before = a; after = b; faults_before = f; faults = g }) fault
+    → f ≤ g → EndsShort fault log (record { before = b; after = c; faults_before = g; faults = h }) told
     → Ends (DueOfDrive tree es ran stands memory asked) (record { before = a; after = c; faults_before = f; faults = h }) told
-ends_full tree es ran stands memory asked log a b c f g h told s stops le sends =
+ends_stopped tree es ran stands memory asked log a b c f g h drive.WriteFailed told s few stops le ends =
+    ends_still _ a b c f g h (logged status.WriteFailed log) told ends.0 ends.1
+    (write_failed refl (within (number_lines stops.place.printed) stops.put.0 stops.put.1 (drive_broken log stops.place s few stops.behind stops.printed) stops.put.2 stops.put.3
+    (record { outcome = refl; store = refl })) stops.cause)
+ends_stopped tree es ran stands memory asked log a b c f g h drive.NoMemory told s few stops le ends =
+    ends_still _ a b c f g h (logged status.NoMemory log) told ends.0 ends.1
+    (no_memory refl (within (number_lines stops.place.printed) stops.put.0 stops.put.1 (drive_broken log stops.place s few stops.behind stops.printed) stops.put.2 stops.put.3
+    (record { outcome = refl; store = refl })))
+ends_stopped tree es ran stands memory asked log a b c f g h drive.LogFull told s few stops le ends =
     ends_behind _ a b c f g h (logged status.LogFull log) told (number_lines stops.place.printed) full_line
-    (drive_full log stops.place s stops.cause.0 stops.cause.1 stops.printed) stops.cause.2 le sends
+    (drive_full log stops.place s stops.cause.0 stops.cause.1 stops.printed) stops.cause.2 le ends
 
 -- a store and a turn bound, as what a run begins with
 abbrev pub beginning : Memory → ℕ → Beginning
@@ -98,37 +109,58 @@ pub run_is : (p : Program) (input : List ℤ) (n : ℕ) (image : ImageView) (fro
     → run_from image from ≡ meaning_of p input n
 run_is p input n image from image_is from_is = ap (λ (i : ImageView). run_from i from) image_is ∙ ap (run_from (planned_image p)) from_is
 
--- what a replay begins with
-pub record Begins (p : Program) (input : List ℤ) (n links : ℕ) (commands : List Order) (image : ImageView) (from : Beginning) (w : WeaveView) : Type 0 where
-  pub image_is : image ≡ planned_image p
-  pub from_is : from ≡ beginning (start_of p input) n
-  pub script_is : w.script ≡ commands
-  pub capacity_is : w.capacity ≡ links
-
 -- its entries are those of its program and its input
-pub entries_are : (p : Program) (input : List ℤ) (n links : ℕ) (commands : List Order) (image : ImageView) (from : Beginning) (w : WeaveView)
-    → Begins p input n links commands image from w → entries_from image from ≡ entries_in (planned_image p) p input n
-entries_are p input n links commands image from w b = ap (λ (i : ImageView). entries_from i from) b.image_is ∙ ap (entries_from (planned_image p)) b.from_is
+pub entries_are : (p : Program) (input : List ℤ) (n : ℕ) (image : ImageView) (from : Beginning) → image ≡ planned_image p → from ≡ beginning (start_of p input) n
+    → entries_from image from ≡ entries_in (planned_image p) p input n
+entries_are p input n image from image_is from_is = ap (λ (i : ImageView). entries_from i from) image_is ∙ ap (entries_from (planned_image p)) from_is
 
--- its run is the meaning of its program
-pub runs_are : (p : Program) (input : List ℤ) (n links : ℕ) (commands : List Order) (image : ImageView) (from : Beginning) (w : WeaveView)
-    → Begins p input n links commands image from w → run_from image from ≡ meaning_of p input n
-runs_are p input n links commands image from w b = run_is p input n image from b.image_is b.from_is
+-- a replay is led by its script
+pub script_led : (w : WeaveView) (links : ℕ) (commands : List Order)
+    → w ≡ record { script = commands; left = commands; current = seq_one; capacity = links } → IsLedSo weave_promise w (script_leads links commands) links
+script_led w links commands is = λ es log stands.
+    let h = subst (λ (x : WeaveView). LogStands weave_promise es x log) is stands in
+    record { legal = h.legal; replayed = h.relation }
 
--- where it stops short, so does the program's run
-pub stops_of : (p : Program) (input : List ℤ) (n links : ℕ) (commands : List Order) (image : ImageView) (from : Beginning) (w : WeaveView) (log : LogView) (sent : Sent) (f : DriveFault)
-    → Begins p input n links commands image from w → RunStops image from log.intervals sent f
-    → StopsShort (entries_in (planned_image p) p input n) (meaning_of p input n).store log.intervals sent f
-stops_of p input n links commands image from w log sent f b h =
-    subst (λ (es : List EntryView). StopsShort es (meaning_of p input n).store log.intervals sent f) (entries_are p input n links commands image from w b)
-    (subst (λ (r : Ran). StopsShort (entries_from image from) r.store log.intervals sent f) (runs_are p input n links commands image from w b) h)
+-- at its beginning it stands for the empty log
+pub script_stands : (w : WeaveView) (links : ℕ) (commands : List Order)
+    → w ≡ record { script = commands; left = commands; current = seq_one; capacity = links } → StandsFor w empty_log
+script_stands w links commands is =
+    subst (λ (x : WeaveView). StandsFor x empty_log) (sym is) (record { left = refl; current = refl; replay = tt })
 
--- a log that stands for its drive is that of the script's replay
-pub log_of_run : (p : Program) (input : List ℤ) (n links : ℕ) (commands : List Order) (image : ImageView) (from : Beginning) (w : WeaveView) (log : LogView)
-    → Begins p input n links commands image from w → LogStands weave_promise (entries_from image from) w log
-    → IsScriptReplay links commands (entries_in (planned_image p) p input n) log
-log_of_run p input n links commands image from w log b h =
-    subst (λ (c : List Order). IsScriptReplay links c (entries_in (planned_image p) p input n) log) b.script_is
-    (subst (λ (k : ℕ). IsScriptReplay k w.script (entries_in (planned_image p) p input n) log) b.capacity_is
-    (subst (λ (es : List EntryView). IsScriptReplay w.capacity w.script es log) (entries_are p input n links commands image from w b)
-    (record { legal = h.legal; replayed = h.relation })))
+-- intervals that are legal by some requests are legal by all that allow these
+each_as : (may more : EntryView → LogView → Ask → Type 0) → ((e : EntryView) (log : LogView) (ask : Ask) → may e log ask → more e log ask)
+    → (es : List EntryView) (front is : List Interval) → EachFrom (IsLegal may es) front is → EachFrom (IsLegal more es) front is
+each_as may more f es front [] h = tt
+each_as may more f es front (i ∷ is) h = (
+  record {
+    entry = h.0.entry;
+    named = h.0.named;
+    number = h.0.number;
+    order = h.0.order;
+    asked = f h.0.entry (log_of es front) i.asked h.0.asked;
+    ran = h.0.ran;
+    done = h.0.done;
+  },
+  each_as may more f es (front ++ i ∷ []) is h.1,
+)
+
+-- in a legal log each request of a controller for at most so many workers is the one that is decided
+abbrev pub AreDecided : Type 0
+AreDecided = (workers : ℕ) (es : List EntryView) (log : LogView) → IsLegalLog (MayBeAsked workers) es log
+    → IsLegalLog (λ e before ask. ask ≡ control_asks workers e before) es log
+
+-- a replay without commands is led by its controller
+pub control_led : AreDecided → (b : Both WeaveView ControllerView) (workers links : ℕ)
+    → b.runner ≡ record { script = []; left = []; current = seq_one; capacity = links } → b.asker ≡ new_controller workers
+    → IsLedSo control_promise b (control_leads workers) links
+control_led decided b workers links runner asker = λ es log stands.
+    let legal : IsLegalLog (MayBeAsked b.asker.workers) es log = record {
+      entries = stands.legal.entries;
+      intervals = each_as (control_promise.may_ask b) (MayBeAsked b.asker.workers) (λ e so_far ask may. may tt) es [] log.intervals stands.legal.intervals;
+    } in
+    let asked = subst (λ (c : ControllerView). IsLegalLog (MayBeAsked c.workers) es log) asker legal in
+    let none : b.runner.script ≡ [] = ap (λ (w : WeaveView). w.script) runner in
+    record {
+      legal = decided workers es log asked;
+      replayed = subst (λ (w : WeaveView). IsReplayOf w.capacity w.script log) runner (stands.relation.1 none);
+    }

@@ -12,7 +12,6 @@ use Rattle.nona_tree.specs.Run.{Ran, meaning_of}
 use Rattle.morta_task.specs.Entries.{EntryView}
 use Rattle.morta_task.specs.LogView.{LogView, empty_log}
 use Rattle.morta_task.specs.Legal.{EndsAll, last_in}
-use Rattle.morta_script.specs.declared.script.Command.{Command as Order}
 use Rattle.nona_stages.specs.Seen.{seen_of}
 use Rattle.nona_report.specs.Report.{report_text}
 use Rattle.morta_text.specs.Texts.{number_lines, log_text}
@@ -22,17 +21,20 @@ use Rattle.parcae.specs.declared.refusal.Refusal.TheVariants as refusal
 use Rattle.parcae.specs.declared.refusal.Source.{Source}
 use Rattle.parcae.specs.declared.refusal.Source.TheVariants as source
 use Rattle.parcae.specs.declared.status.Status.TheVariants as status
-use Rattle.parcae.specs.Words.{Command, seq, check, replay}
+use Rattle.parcae.specs.Words.{Leader, by_script, by_control, Command, seq, check, replay, trial}
+use Rattle.parcae.specs.Leads.{Lead}
+use Rattle.parcae.specs.Trials.{trial_run, trial_entries, IsTrialLog, DueOfTrial, trial_ran, trial_full, trial_broken, trial_unbegun}
+use Rattle.parcae.specs.Summary.{summary_text}
 use Rattle.fate_io.specs.Reading.{Held, Looked}
 use Rattle.fate_io.specs.Outside.{Outside, outside_of}
 use Rattle.parcae.specs.Codes.{code_of}
 use Rattle.parcae.specs.Texts.{refusal_line, refusal_status, full_line}
 use Rattle.parcae.specs.Told.{Told, bare, logged, finished, status_of}
 use Rattle.parcae.specs.Ends.{Way, Whole, Unbegun, Ends, whole, write_failed, no_memory, unbegun}
-use Rattle.parcae.specs.Files.{IsContent, IsBad, failed, long, text, Refuses, program_text, input_token, input_count, script_line, GivesProgram, GivesInput, NoInput, GivesScript, stops, starves, follows}
-use Rattle.parcae.specs.Due.{where_asked, behind_numbers, DueOfReplay, DueOfSeq, seq_ran, seq_broken, seq_unbegun, DueOfCheck, check_ran, check_unbegun, DueOfDrive, drive_ran, drive_full, drive_broken, drive_unbegun, DueOfCommand}
+use Rattle.parcae.specs.Files.{IsContent, IsBad, failed, long, text, Refuses, program_text, input_token, input_count, script_line, GivesProgram, GivesInput, NoInput, GivesLead, NoLead, stops, starves, follows}
+use Rattle.parcae.specs.Due.{where_asked, behind_numbers, DueOfTask, DueOfSeq, seq_ran, seq_broken, seq_unbegun, DueOfCheck, check_ran, check_unbegun, DueOfDrive, drive_ran, drive_full, drive_broken, drive_unbegun, DueOfCommand}
 use Rattle.parcae.specs.Answers.{Answers, EndsWhole}
-use Rattle.parcae.specs.Statuses.{named, Says}
+use Rattle.parcae.specs.Statuses.{script_named, named, Says}
 
 -- what is due of a run in one thread is whole only as its meaning
 pub seq_whole : (tree : Program) (ran : Ran) (memory : Bool) (way : Way) (report : Told) (printed later : List ℕ)
@@ -62,6 +64,20 @@ drive_whole tree es ran stands memory log way report printed later (drive_full l
 drive_whole tree es ran stands memory log way report printed later (drive_broken l m s few place more) e = cc
 drive_whole tree es ran stands memory log way report printed later drive_unbegun e = cc
 
+-- what is due of a trial is whole as its summary, with its whole log, or as the line of a full log
+pub data TrialWhole (n : ℕ) (report : Told) (printed later : List ℕ) : Type 0 where
+  is_tried : (l : LogView) → IsTrialLog n l → EndsAll (trial_entries n) (last_in l.intervals) → report ≡ finished (trial_run n) l → printed ≡ []
+      → later ≡ summary_text n (trial_run n).store l → TrialWhole n report printed later
+  is_full_trial : (l : LogView) → length l.intervals ≡ most → report ≡ logged status.LogFull l → printed ≡ [] → later ≡ full_line
+      → TrialWhole n report printed later
+
+pub trial_whole : (n : ℕ) (way : Way) (report : Told) (printed later : List ℕ)
+    → DueOfTrial n way → way ≡ Whole report printed later → TrialWhole n report printed later
+trial_whole n way report printed later (trial_ran l s ends few) e = is_tried l s ends (cc) (cc) (cc)
+trial_whole n way report printed later (trial_full l s why) e = is_full_trial l why.0 (cc) (cc) (cc)
+trial_whole n way report printed later (trial_broken l s few) e = cc
+trial_whole n way report printed later trial_unbegun e = cc
+
 -- a command's files were read, and its run gives this whole text
 abbrev pub Runs : Looked → Told → List ℕ → List ℕ → Option Command → Type 0
 Runs looked report printed later None = ⊥
@@ -71,9 +87,10 @@ Runs looked report printed later (Some (seq task)) =
 Runs looked report printed later (Some (check file)) =
     (tree : Program) × GivesProgram (outside_of looked) file tree × DueOfCheck tree (Whole report printed later)
 Runs looked report printed later (Some (replay task)) =
-    (tree : Program) × (numbers : List ℤ) × (commands : List Order) × GivesProgram (outside_of looked) task.run.file tree
-    × GivesInput (outside_of looked) task.run.input numbers × GivesScript (outside_of looked) task.script commands
-    × DueOfReplay tree numbers commands task.run.turns task.links task.run.memory task.log (Whole report printed later)
+    (tree : Program) × (numbers : List ℤ) × (lead : Lead) × GivesProgram (outside_of looked) task.run.file tree
+    × GivesInput (outside_of looked) task.run.input numbers × GivesLead (outside_of looked) task.links task.leader lead
+    × DueOfTask tree numbers lead task (Whole report printed later)
+Runs looked report printed later (Some (trial number)) = DueOfTrial number (Whole report printed later)
 
 -- why a whole text is due of a command: the words are none; one of its files is bad; or it runs
 pub data WholeBy (command : Option Command) (looked : Looked) (added : List (List ℕ)) (report : Told) (printed later : List ℕ) : Type 0 where
@@ -90,6 +107,12 @@ pub bad_input : (input : Option (List ℕ)) (outside : Outside) (added : List (L
     → (file : List ℕ) × (input ≡ Some file) × IsBad source.Input outside file added r
 bad_input None outside added r bad = absurd bad
 bad_input (Some file) outside added r bad = (file, refl, bad)
+
+-- a script that gives nothing has a file
+pub bad_lead : (leader : Leader) (outside : Outside) (added : List (List ℕ)) (r : Refusal) → NoLead outside leader added r
+    → (file : List ℕ) × (script_named leader ≡ Some file) × IsBad source.Script outside file added r
+bad_lead (by_script file) outside added r bad = (file, refl, bad)
+bad_lead (by_control workers) outside added r bad = absurd bad
 
 pub whole_by : (command : Option Command) (looked : Looked) (added : List (List ℕ)) (report : Told) (printed later : List ℕ)
     → DueOfCommand (outside_of looked) command added (Whole report printed later) → WholeBy command looked added report printed later
@@ -108,10 +131,12 @@ whole_by (Some (replay task)) looked added report printed later (starves e w) = 
 whole_by (Some (replay task)) looked added report printed later (follows tree g (stops r bad w)) =
     let b = bad_input task.run.input (outside_of looked) added r bad in by_file source.Input b.0 r b.1 b.2 w
 whole_by (Some (replay task)) looked added report printed later (follows tree g (starves e w)) = absurd (whole_apart report printed later w)
-whole_by (Some (replay task)) looked added report printed later (follows tree g (follows numbers h (stops r bad w))) = by_file source.Script task.script r refl bad w
+whole_by (Some (replay task)) looked added report printed later (follows tree g (follows numbers h (stops r bad w))) =
+    let b = bad_lead task.leader (outside_of looked) added r bad in by_file source.Script b.0 r b.1 b.2 w
 whole_by (Some (replay task)) looked added report printed later (follows tree g (follows numbers h (starves e w))) = absurd (whole_apart report printed later w)
-whole_by (Some (replay task)) looked added report printed later (follows tree g (follows numbers h (follows commands k (e, d)))) =
-    by_run (tree, numbers, commands, g, h, k, d)
+whole_by (Some (replay task)) looked added report printed later (follows tree g (follows numbers h (follows lead k (e, d)))) =
+    by_run (tree, numbers, lead, g, h, k, d)
+whole_by (Some (trial number)) looked added report printed later (e, d) = by_run d
 
 -- a run that ended has a status up to 2
 pub ended_code : (o : Outcome) → code_of (status_of o) ≤ 2
@@ -126,6 +151,13 @@ drive_code tree es ran stands memory log report printed later (is_ran l s ends e
     inl (subst (λ (t : Told). code_of t.status ≤ 2) (sym er) (ended_code ran.end))
 drive_code tree es ran stands memory log report printed later (is_full l m few er ep el) = inr (ap (λ (t : Told). code_of t.status) er)
 
+-- so does a trial
+trial_code : (n : ℕ) (report : Told) (printed later : List ℕ) → TrialWhole n report printed later
+    → (code_of report.status ≤ 2) ⊎ (code_of report.status ≡ 18)
+trial_code n report printed later (is_tried l s ends er ep el) =
+    inl (subst (λ (t : Told). code_of t.status ≤ 2) (sym er) (ended_code (trial_run n).end))
+trial_code n report printed later (is_full_trial l few er ep el) = inr (ap (λ (t : Told). code_of t.status) er)
+
 -- a command that runs ends with a status up to 2, or with a full log
 pub runs_code : (command : Option Command) (looked : Looked) (report : Told) (printed later : List ℕ) → Runs looked report printed later command
     → (code_of report.status ≤ 2) ⊎ (code_of report.status ≡ 18)
@@ -137,8 +169,10 @@ runs_code (Some (check file)) looked report printed later (tree, g, d) =
     let w = check_whole tree _ report printed later d refl in
     let is : code_of report.status ≡ 0 = ap (λ (t : Told). code_of t.status) w.0 in
     inl (omega (arith, is))
-runs_code (Some (replay task)) looked report printed later (tree, numbers, commands, g, h, k, d) =
+runs_code (Some (replay task)) looked report printed later (tree, numbers, lead, g, h, k, d) =
     drive_code _ _ _ _ _ _ report printed later (drive_whole _ _ _ _ _ _ _ report printed later d refl)
+runs_code (Some (trial number)) looked report printed later d =
+    trial_code number report printed later (trial_whole number _ report printed later d refl)
 
 -- a call that was not broken off ends whole
 pub ends_apart : (due : Way → Type 0) (sent : Sent) (told : Told) → code_of told.status ≢ 15 → code_of told.status ≢ 16

@@ -12,20 +12,25 @@ use Rattle.morta_script.specs.Lines.{commands_of}
 use Rattle.parcae.specs.declared.refusal.Source.{Source}
 use Rattle.parcae.specs.declared.refusal.Source.TheVariants as source
 use Rattle.parcae.specs.declared.status.Status.TheVariants.{NoMemory}
-use Rattle.parcae.specs.Words.{Command, seq, check, replay}
+use Rattle.parcae.specs.Words.{Leader, by_script, by_control, Command, seq, check, replay, trial}
+use Rattle.parcae.specs.Leads.{Lead, script_leads, control_leads}
+use Rattle.parcae.specs.Trials.{DueOfTrial}
 use Rattle.parcae.specs.Told.{Told}
 use Rattle.parcae.specs.Accepted.{IsAccepted}
 use Rattle.parcae.specs.Ends.{Way, Whole, Ends}
 use Rattle.fate_io.specs.Reading.{Looked}
 use Rattle.fate_io.specs.Outside.{outside_of}
 use Rattle.parcae.specs.Files.{limit_of}
-use Rattle.parcae.specs.Due.{DueOfCommand, DueOfSeq, DueOfCheck, DueOfReplay}
+use Rattle.parcae.specs.Due.{DueOfCommand, DueOfSeq, DueOfCheck, DueOfTask}
 
--- a command's call ends as is due of it, with the names that it adds to those of failed reads
+-- a call ends as is due, with the names that it adds to those of failed reads
+abbrev pub EndsIn : (List (List ℕ) → Way → Type 0) → Looked → Sent → Told → Type 0
+EndsIn due looked sent told =
+    (added : List (List ℕ)) × (looked.failed ≡ looked.failed_before ++ added) × Ends (due added) sent told
+
+-- a command's call ends as is due of it
 abbrev pub Answers : Option Command → Looked → Sent → Told → Type 0
-Answers command looked sent told =
-    (added : List (List ℕ)) × (looked.failed ≡ looked.failed_before ++ added)
-    × Ends (DueOfCommand (outside_of looked) command added) sent told
+Answers command looked = EndsIn (DueOfCommand (outside_of looked) command) looked
 
 -- a file is held within its limit, with this content
 abbrev pub Holds : Looked → Source → List ℕ → List ℕ → Type 0
@@ -44,6 +49,11 @@ HoldsInput looked (Some file) numbers = (bytes : List ℕ) × Holds looked sourc
 abbrev pub HoldsScript : Looked → List ℕ → List Order → Type 0
 HoldsScript looked file commands = (bytes : List ℕ) × Holds looked source.Script file bytes × (commands_of bytes ≡ Ok commands)
 
+-- what leads a replay, with links that hold so many messages: the script that its file has; or a controller
+abbrev pub HoldsLead : Looked → ℕ → Leader → Lead → Type 0
+HoldsLead looked links (by_script file) lead = (commands : List Order) × HoldsScript looked file commands × (lead ≡ script_leads links commands)
+HoldsLead looked links (by_control workers) lead = lead ≡ control_leads workers
+
 -- nothing outside failed: no read, the sink at nothing, and memory was found
 pub record IsCalm (looked : Looked) (sent : Sent) (told : Told) : Type 0 where
   pub reads : looked.failed ≡ looked.failed_before
@@ -55,8 +65,8 @@ abbrev pub EndsWhole : (Way → Type 0) → Sent → Told → Type 0
 EndsWhole due sent told =
     (printed later : List ℕ) × due (Whole told printed later) × Appends sent.before sent.after (printed ++ later)
 
--- A command whose files are held within their limits, with an accepted program, an input and a script, ends with what is due
--- of its run, or of the report on its loops, whole, where nothing outside failed.
+-- A command whose files are held within their limits, with an accepted program, an input and a script, where it names one,
+-- ends with what is due of its run, or of the report on its loops, whole, where nothing outside failed; so does a trial.
 abbrev pub IsComplete : Option Command → Looked → Sent → Told → Type 0
 IsComplete None looked sent told = Unit {0}
 IsComplete (Some (seq task)) looked sent told =
@@ -65,6 +75,7 @@ IsComplete (Some (seq task)) looked sent told =
 IsComplete (Some (check file)) looked sent told =
     (tree : Program) → HoldsProgram looked file tree → IsCalm looked sent told → EndsWhole (DueOfCheck tree) sent told
 IsComplete (Some (replay task)) looked sent told =
-    (tree : Program) (numbers : List ℤ) (commands : List Order) → HoldsProgram looked task.run.file tree
-    → HoldsInput looked task.run.input numbers → HoldsScript looked task.script commands → IsCalm looked sent told
-    → EndsWhole (DueOfReplay tree numbers commands task.run.turns task.links task.run.memory task.log) sent told
+    (tree : Program) (numbers : List ℤ) (lead : Lead) → HoldsProgram looked task.run.file tree
+    → HoldsInput looked task.run.input numbers → HoldsLead looked task.links task.leader lead → IsCalm looked sent told
+    → EndsWhole (DueOfTask tree numbers lead task) sent told
+IsComplete (Some (trial number)) looked sent told = IsCalm looked sent told → EndsWhole (DueOfTrial number) sent told

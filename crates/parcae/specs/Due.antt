@@ -3,14 +3,11 @@ use Rattle.std.specs.Prelude.{◌≡◌, ◌≤◌, ℕ, Bool, if◌then◌else�
 use Rattle.std.specs.declared.option.Option.{Option}
 use Rattle.nona_tree.specs.declared.trees.Program.{Program}
 use Rattle.nona_tree.specs.Memory.{Memory, Extends}
-use Rattle.nona_tree.specs.Run.{Ran, start_of, meaning_of}
-use Rattle.morta_task.specs.Entries.{EntryView, entries_of}
-use Rattle.morta_task.specs.ImageView.{ImageView}
+use Rattle.nona_tree.specs.Run.{Ran, meaning_of}
+use Rattle.morta_task.specs.Entries.{EntryView}
 use Rattle.nona_gen.specs.OfSeen.{planned_image}
 use Rattle.morta_task.specs.LogView.{LogView, empty_log}
 use Rattle.morta_task.specs.Legal.{EndsAll, last_in}
-use Rattle.morta_script.specs.declared.script.Command.{Command as Order}
-use Rattle.weave.specs.Replay.{IsScriptReplay}
 use Rattle.nona_stages.specs.Seen.{seen_of}
 use Rattle.nona_report.specs.Report.{report_text}
 use Rattle.morta_text.specs.Texts.{number_lines, outcome_text, memory_text, log_text}
@@ -18,12 +15,15 @@ use Rattle.morta_exec.specs.Places.{most, IsBehind, StartsNext}
 use Rattle.parcae.specs.declared.refusal.Refusal.TheVariants.{Usage}
 use Rattle.parcae.specs.declared.refusal.Source.TheVariants as source
 use Rattle.parcae.specs.declared.status.Status.TheVariants as status
-use Rattle.parcae.specs.Words.{Command, seq, check, replay}
+use Rattle.parcae.specs.Words.{ReplayTask, Command, seq, check, replay, trial}
 use Rattle.fate_io.specs.Outside.{Outside}
 use Rattle.parcae.specs.Texts.{full_line}
 use Rattle.parcae.specs.Told.{bare, logged, finished}
 use Rattle.parcae.specs.Ends.{Way, Whole, Early, Unbegun}
-use Rattle.parcae.specs.Files.{DueOf, IsBad, GivesProgram, GivesInput, NoInput, GivesScript, refusing}
+use Rattle.parcae.specs.Files.{DueOf, IsBad, GivesProgram, GivesInput, NoInput, GivesLead, NoLead, refusing}
+use Rattle.parcae.specs.Entered.{entries_in}
+use Rattle.parcae.specs.Leads.{Lead, IsLedReplay}
+use Rattle.parcae.specs.Trials.{DueOfTrial}
 
 -- a text, where it is asked for
 abbrev pub where_asked : Bool → List ℕ → List ℕ
@@ -54,16 +54,16 @@ pub data DueOfDrive (tree : Program) (es : List EntryView) (ran : Ran) (stands :
       → Extends m.printed ran.store.printed → DueOfDrive tree es ran stands memory log (Early l (number_lines m.printed))
   drive_unbegun : DueOfDrive tree es ran stands memory log (Unbegun empty_log)
 
--- the entries of the run of an image of a program over an input
-abbrev pub entries_in : ImageView → Program → List ℤ → ℕ → List EntryView
-entries_in image tree numbers turns = entries_of image turns (start_of tree numbers)
-
--- What is due of the replay of a script over a program and an input, with loops of at most so many turns and links that hold
--- so many messages: the log stands where it is that of the replay.
-abbrev pub DueOfReplay : Program → List ℤ → List Order → (turns links : ℕ) → (memory log : Bool) → Way → Type 0
-DueOfReplay tree numbers commands turns links =
+-- What is due of a replay over a program and an input that is led so, with loops of at most so many turns and links that
+-- hold so many messages: the log stands where it is that of the replay.
+abbrev pub DueOfReplay : Program → List ℤ → Lead → (turns links : ℕ) → (memory log : Bool) → Way → Type 0
+DueOfReplay tree numbers lead turns links =
     DueOfDrive tree (entries_in (planned_image tree) tree numbers turns) (meaning_of tree numbers turns)
-    (IsScriptReplay links commands (entries_in (planned_image tree) tree numbers turns))
+    (IsLedReplay lead links (entries_in (planned_image tree) tree numbers turns))
+
+-- the same, with what a replay takes
+abbrev pub DueOfTask : Program → List ℤ → Lead → ReplayTask → Way → Type 0
+DueOfTask tree numbers lead task = DueOfReplay tree numbers lead task.run.turns task.links task.run.memory task.log
 
 -- what is due of the report on the loops of a program: the whole report, of which nothing but a status is told
 pub data DueOfCheck (tree : Program) : Way → Type 0 where
@@ -74,7 +74,12 @@ pub data DueOfCheck (tree : Program) : Way → Type 0 where
 abbrev pub AllRead : (Way → Type 0) → List (List ℕ) → Way → Type 0
 AllRead due added way = (added ≡ []) × due way
 
--- what is due of a command: the program comes first, then the input, then the script
+-- what is due of a replay once its program and its input are read: what leads comes next
+abbrev pub DueOfLed : Outside → ReplayTask → Program → List ℤ → List (List ℕ) → Way → Type 0
+DueOfLed outside task tree numbers =
+    DueOf (NoLead outside task.leader) (GivesLead outside task.links task.leader) (λ lead. AllRead (DueOfTask tree numbers lead task))
+
+-- what is due of a command: the program comes first, then the input, then what leads
 abbrev pub DueOfCommand : Outside → Option Command → List (List ℕ) → Way → Type 0
 DueOfCommand outside None added way = (added ≡ []) × (way ≡ refusing Usage)
 DueOfCommand outside (Some (seq task)) added way =
@@ -85,6 +90,5 @@ DueOfCommand outside (Some (check file)) added way =
     DueOf (IsBad source.Program outside file) (GivesProgram outside file) (λ tree. AllRead (DueOfCheck tree)) added way
 DueOfCommand outside (Some (replay task)) added way =
     DueOf (IsBad source.Program outside task.run.file) (GivesProgram outside task.run.file) (λ tree.
-    DueOf (NoInput outside task.run.input) (GivesInput outside task.run.input) (λ numbers.
-    DueOf (IsBad source.Script outside task.script) (GivesScript outside task.script) (λ commands.
-    AllRead (DueOfReplay tree numbers commands task.run.turns task.links task.run.memory task.log)))) added way
+    DueOf (NoInput outside task.run.input) (GivesInput outside task.run.input) (DueOfLed outside task tree)) added way
+DueOfCommand outside (Some (trial number)) added way = AllRead (DueOfTrial number) added way

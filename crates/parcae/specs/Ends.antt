@@ -6,11 +6,13 @@ use Rattle.fate_io.specs.Causes.{Rose}
 use Rattle.fate_io.specs.Sending.{Sent, Sends}
 use Rattle.fate_io.specs.declared.sending.SendFault.{SendFault}
 use Rattle.morta_task.specs.LogView.{LogView}
+use Rattle.morta_exec.specs.declared.fault.DriveFault.{DriveFault}
+use Rattle.morta_exec.specs.declared.fault.DriveFault.TheVariants as drive
 use Rattle.parcae.specs.declared.status.Status.TheVariants as status
 use Rattle.parcae.specs.declared.refusal.Stop.{Stop}
 use Rattle.parcae.specs.declared.refusal.Stop.TheVariants as stop
-use Rattle.parcae.specs.Texts.{refusal_line, refusal_status}
-use Rattle.parcae.specs.Told.{Told, bare, once_sent, IsBare, Keeps}
+use Rattle.parcae.specs.Texts.{refusal_line, refusal_status, full_line}
+use Rattle.parcae.specs.Told.{Told, bare, logged, once_sent, IsBare, Keeps}
 
 -- What may be due of a call. Where nothing outside fails, a whole text: the lines of printed numbers, and then what stands
 -- behind them, with a report. Where something fails within the lines of printed numbers, a front of these lines, with a log.
@@ -45,3 +47,15 @@ SendsReport sent report text told =
 abbrev pub GivesUp : Stop → Sent → Told → Type 0
 GivesUp (stop.Refused r) sent told = SendsReport sent (bare (refusal_status r)) (refusal_line r) told
 GivesUp stop.NoMemory sent told = (told ≡ bare status.NoMemory) × Appends sent.before sent.after []
+
+-- nothing was written, and no put failed
+pub record IsStill (sent : Sent) : Type 0 where
+  pub written : sent.after ≡ sent.before
+  pub faults : sent.faults ≡ sent.faults_before
+
+-- What a call does behind a run that stopped short with this log: it sends the line of a full log; or nothing, where the sink
+-- failed or memory ran out. It reports why.
+abbrev pub EndsShort : DriveFault → LogView → Sent → Told → Type 0
+EndsShort drive.WriteFailed log sent told = (told ≡ logged status.WriteFailed log) × IsStill sent
+EndsShort drive.LogFull log sent told = SendsReport sent (logged status.LogFull log) full_line told
+EndsShort drive.NoMemory log sent told = (told ≡ logged status.NoMemory log) × IsStill sent

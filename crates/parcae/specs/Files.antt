@@ -21,6 +21,8 @@ use Rattle.parcae.specs.Texts.{refusal_line, refusal_status}
 use Rattle.parcae.specs.Told.{bare}
 use Rattle.parcae.specs.Accepted.{IsAccepted, IsRefused}
 use Rattle.parcae.specs.Ends.{Way, Whole, Unbegun}
+use Rattle.parcae.specs.Leads.{Lead, script_leads, control_leads}
+use Rattle.parcae.specs.Words.{Leader, by_script, by_control}
 
 -- what is seen outside through a shelf
 abbrev pub seen : {S : Type 0} → (S → List ℕ → Held) → S → Outside
@@ -86,6 +88,16 @@ NoInput outside (Some file) added r = IsBad source.Input outside file added r
 abbrev pub GivesScript : Outside → List ℕ → List Order → Type 0
 GivesScript outside file commands =
     (bytes : List ℕ) × IsContent source.Script (outside.held file) bytes × (commands_of bytes ≡ Ok commands)
+
+-- what leads a replay, with links that hold so many messages: the script that its file gives; a controller needs no file
+abbrev pub GivesLead : Outside → ℕ → Leader → Lead → Type 0
+GivesLead outside links (by_script file) lead = (commands : List Order) × GivesScript outside file commands × (lead ≡ script_leads links commands)
+GivesLead outside links (by_control workers) lead = lead ≡ control_leads workers
+
+-- a script's file gives none
+abbrev pub NoLead : Outside → Leader → List (List ℕ) → Refusal → Type 0
+NoLead outside (by_script file) added r = IsBad source.Script outside file added r
+NoLead outside (by_control workers) added r = ⊥
 
 -- the line of a refusal is due, with its status
 abbrev pub refusing : Refusal → Way

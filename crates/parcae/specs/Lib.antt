@@ -6,7 +6,11 @@ pub mod Texts
 pub mod Accepted
 pub mod Refusing
 pub mod Ends
+pub mod Entered
+pub mod Leads
 pub mod Files
+pub mod Summary
+pub mod Trials
 pub mod Due
 pub mod Answers
 pub mod Statuses

@@ -118,7 +118,7 @@ fn faulty(fault: ProgramFault) -> Refusal
 }
 
 /// The program of a text.
-fn accept(alloc: Global, text: &[u8]) -> Result<Checked, Stop>
+pub fn accept(alloc: Global, text: &[u8]) -> Result<Checked, Stop>
     requires { length text.now ≤ 2 ^ 20 }
     ensures accepted { IfOk result (λ checked. IsAccepted text.now checked) }
     ensures refused { IfErr result (StopsText (RefusesProgram text.now)) }

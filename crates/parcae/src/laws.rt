@@ -1,14 +1,16 @@
 //! What each status of a call tells, in words of the files that are held, the meaning of programs and what was written.
 ghost use Rattle.parcae.specs.declared.refusal.Source.TheVariants as source;
-ghost use Rattle.parcae.specs.Statuses.{OfEachCall, TellsUsage, TellsFault, TellsFailedRead, TellsFailedWrite, TellsLongFile, TellsFullLog, TellsMeaning, TellsFront};
+ghost use Rattle.parcae.specs.Statuses.{OfEachCall, TellsUsage, TellsFault, TellsFailedRead, TellsFailedWrite, TellsLongFile};
+ghost use Rattle.parcae.specs.Statuses.{TellsFullLog, TellsMeaning, TellsFront};
 
 use nona_parse::reads_one_tree;
+use trial::trial_runs_to_its_end;
 
 /// Says what each exit status tells of every call that answers as `parcae_still` does: of each command, over a shelf that
 /// tells what it holds, and a sink that tells what was written. It does nothing when called.
 pub fn statuses_tell()
     // 0, 1 and 2 come with the outcome, the store and exactly the text of the program's sequential meaning; of `check` only 0 comes,
-    // with exactly the report on the program's loops.
+    // with exactly the report on the program's loops; of `trial` only 0, with what its program comes to and exactly the summary.
     ensures ended { OfEachCall TellsMeaning }
     // 10 comes exactly where the words are no command.
     ensures usage { OfEachCall TellsUsage }
@@ -23,7 +25,7 @@ pub fn statuses_tell()
     // 15 has its fault.
     ensures unwritten { OfEachCall TellsFailedWrite }
     // After 15 and 16 outcome and store are both told or neither, by what was written. Of `check` neither is told, and a front of its
-    // report was written.
+    // report was written; of `trial` both are, and a front of its summary was written, or neither, and nothing was.
     ensures front { OfEachCall TellsFront }
     // 17 comes only where a file is too long.
     ensures long { OfEachCall TellsLongFile }
@@ -31,4 +33,5 @@ pub fn statuses_tell()
     ensures full { OfEachCall TellsFullLog }
 {
     reads_one_tree();
+    trial_runs_to_its_end();
 }

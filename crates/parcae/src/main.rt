@@ -10,8 +10,10 @@ mod report;
 mod runs;
 mod status;
 mod still;
+mod summary;
 #[cfg(test)]
 mod tests;
+mod trials;
 mod words;
 
 use fate_io::{FileShelf, OutSink};

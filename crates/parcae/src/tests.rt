@@ -3,7 +3,8 @@
 use crate::report::Report;
 use crate::status::Status;
 use crate::still::parcae_still;
-use fate_io::{MemoryShelf, MemorySink};
+use crate::summary::{Summary, send_summary};
+use fate_io::{MemoryShelf, MemorySink, SendFault};
 use std::alloc::{AllocError, Global};
 use std::test::Fail;
 
@@ -138,6 +139,47 @@ fn what_is_told_beside_a_report_on_loops(rt: HostRuntime) -> Result<(), Fail> {
     for put in [0, 2] {
         let (report, _) = call(rt.alloc(), "check mixed", 0, put, ROOM)?;
         assert_eq!(rt; parts(&report), (0, false, false), "put {put}");
+    }
+    Ok(())
+}
+
+/// What the summary of the trial of 7 says.
+const SUMMARY: Summary = Summary {
+    number: 7,
+    input: 20_070,
+    intervals: 432,
+    iterations: 321_120,
+    printed: 17,
+    sum: 69_984_912_865_396,
+};
+
+/// Its text.
+const TEXT: &str =
+    "trial 7\ninput 20070\noutcome done\nintervals 432\niterations 321120\nprinted 17\nsum 69984912865396\n";
+
+#[test]
+fn fronts_of_a_summary(rt: HostRuntime) -> Result<(), Fail> {
+    use SendFault::WriteFailed;
+    let cases = [
+        (0, Ok(()), 95),
+        (1, Err(WriteFailed), 4),
+        (2, Err(WriteFailed), 14),
+        (3, Err(WriteFailed), 26),
+        (4, Err(WriteFailed), 40),
+        (5, Err(WriteFailed), 56),
+        (6, Err(WriteFailed), 70),
+        (7, Err(WriteFailed), 85),
+    ];
+    for (put, sent, length) in cases {
+        let failing = Vec::from_slice(rt.alloc(), &[put])?;
+        let mut sink = MemorySink::new(rt.alloc(), ROOM, failing)?;
+        assert_eq!(rt;
+            send_summary(rt.alloc(), SUMMARY, &mut sink),
+            sent,
+            "put {put}"
+        );
+        assert_eq!(rt; sink.text().len(), length, "put {put}");
+        assert!(rt; TEXT.as_bytes().starts_with(sink.text()), "put {put}");
     }
     Ok(())
 }

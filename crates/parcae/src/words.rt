@@ -1,30 +1,40 @@
-ghost use Rattle.std.specs.Prelude.{◌≡◌, ◌≤◌, ◌∷◌, [], true, false, map, string_bytes, option_map, option_and_then, MatchOption, IfSome, IfOk};
+ghost use Rattle.std.specs.Prelude.{◌≡◌, ◌≤◌, ◌∷◌, ◌++◌, [], true, false, map, codes};
+ghost use Rattle.std.specs.Prelude.{string_bytes, option_map, option_and_then, MatchOption, IfSome, IfOk};
 ghost use Rattle.std.specs.Option.{option_copied};
 ghost use Rattle.clap.specs.Walk.{rule_of, first_of};
 ghost use Rattle.clap.specs.Simple.{app_of};
 ghost use Rattle.clap.specs.Takes.{is_given};
 ghost use Rattle.clap.specs.Faults.{is_simple_and_free};
-ghost use Rattle.parcae.specs.Words.{file_argument, option_argument, flag_argument, with_arguments, run_arguments, seq_arguments, check_arguments, replay_arguments};
-ghost use Rattle.parcae.specs.Words.{found_in, turns_by, links_by, task_by, seq_by, check_by, replay_by, meant};
-ghost use Rattle.parcae.specs.Meant.{IsMeant, HasTurns, IsInRange, entries, task_of};
+ghost use Rattle.parcae.specs.Words.{positional_argument, option_argument, flag_argument, with_arguments, run_arguments, log_arguments};
+ghost use Rattle.parcae.specs.Words.{seq_arguments, check_arguments, replay_arguments, trial_arguments};
+ghost use Rattle.parcae.specs.Words.{found_in, turns_by, links_by, workers_by, leader_by, leader_in, task_by, seq_by, check_by, replay_by, trial_by, meant};
+ghost use Rattle.parcae.specs.Meant.{IsMeant, HasTurns, HasWorkers, IsInRange, entries, task_of, leader_of};
 ghost use Rattle.parcae.specs.declared.words.TheConstants.{TURN_LIMIT};
+ghost use Rattle.morta_task.specs.declared.limits.TheConstants as task_limits;
 ghost use Rattle.weave.specs.declared.limits.TheConstants as limits;
 
 use clap::error::ErrorKind;
 use clap::parser::ValueSource;
 use clap::{Arg, ArgAction, ArgMatches};
+use morta_task::WORKERS;
 use nona_text::number_within;
 use std::alloc::{AllocError, Global};
 use weave::CAPACITY;
 
 /// How many turns a loop may take whenever it is entered, where the words don't say.
-const DEFAULT_TURNS: u64 = 1_000_000_000;
+pub(crate) const DEFAULT_TURNS: u64 = 1_000_000_000;
 
 /// The most turns of a loop.
 const TURN_LIMIT: u64 = 1_000_000_000_000;
 
 /// How many messages a link between two tasks holds, where the words don't say.
-const DEFAULT_LINKS: usize = 4;
+pub(crate) const DEFAULT_LINKS: usize = 4;
+
+/// For how many workers a controller asks at most, where the words don't say.
+const DEFAULT_WORKERS: u8 = 4;
+
+/// The greatest number of a trial.
+const TRIAL_LIMIT: u64 = 65_535;
 
 /// What a run takes: the program's file, the input's where there is one, how many turns a loop may take whenever it is
 /// entered, from 1 to 10^12, and whether the memory is written.
@@ -36,12 +46,21 @@ pub struct Run {
     pub memory: bool,
 }
 
-/// What a replay takes: what its run takes, the script's file, how many messages a link between two tasks holds, from 1 to 64,
-/// and whether the log is written.
+/// What asks for the intervals of a replay.
+#[derive(Drop)]
+pub enum Leader {
+    /// The script in a file.
+    Script { file: String },
+    /// A controller, for at most so many workers, from 1 to 16.
+    Control { workers: u8 },
+}
+
+/// What a replay takes: what its run takes, what asks for its intervals, how many messages a link between two tasks holds, from
+/// 1 to 64, and whether the log is written.
 #[derive(Drop)]
 pub struct Replay {
     pub run: Run,
-    pub script: String,
+    pub leader: Leader,
     pub links: usize,
     pub log: bool,
 }
@@ -53,13 +72,15 @@ pub enum Command {
     Seq(Run),
     /// What is seen of the loops of the program in a file.
     Check { file: String },
-    /// The replay of the script in a file.
+    /// A replay, led by a script or by a controller.
     Replay(Replay),
+    /// The trial of a number, from 0 to 65,535.
+    Trial { number: u16 },
 }
 
-/// A name of a file: the first word that is no option's is for the first such argument.
-fn file_argument<'a>(alloc: Global, id: &'a str, required: bool) -> Arg<'a>
-    ensures rule { rule_of result ≡ file_argument id.entry.now required }
+/// A positional argument: the first word that is no option's is for the first such argument.
+fn positional_argument<'a>(alloc: Global, id: &'a str, required: bool) -> Arg<'a>
+    ensures rule { rule_of result ≡ positional_argument id.entry.now required }
     ensures own { result.global ≡ false }
 {
     Arg::new(alloc, id).required(required)
@@ -95,8 +116,8 @@ fn run_arguments<'a>(alloc: Global, name: &'a str) -> Result<clap::Command<'a>, 
     ensures { IfOk result (λ arguments. app_of arguments ≡ with_arguments name.entry.now run_arguments) }
 {
     without_arguments(alloc, name)
-        .arg(file_argument(alloc, "file", true))?
-        .arg(file_argument(alloc, "input", false))?
+        .arg(positional_argument(alloc, "file", true))?
+        .arg(positional_argument(alloc, "input", false))?
         .arg(option_argument(alloc, "turns"))?
         .arg(flag_argument(alloc, "memory"))
 }
@@ -105,17 +126,33 @@ fn run_arguments<'a>(alloc: Global, name: &'a str) -> Result<clap::Command<'a>, 
 fn check_arguments<'a>(alloc: Global) -> Result<clap::Command<'a>, AllocError>
     ensures { IfOk result (λ arguments. app_of arguments ≡ check_arguments) }
 {
-    without_arguments(alloc, "check").arg(file_argument(alloc, "file", true))
+    without_arguments(alloc, "check").arg(positional_argument(alloc, "file", true))
 }
 
-/// What `replay` takes: besides what runs a program `--script S [--log] [--links L]`.
+/// What `replay` takes but for what asks: besides what runs a program `[--log] [--links L]`.
+fn logged_arguments<'a>(alloc: Global) -> Result<clap::Command<'a>, AllocError>
+    ensures { IfOk result (λ arguments. app_of arguments ≡ with_arguments (codes "replay") (run_arguments ++ log_arguments)) }
+{
+    run_arguments(alloc, "replay")?
+        .arg(flag_argument(alloc, "log"))?
+        .arg(option_argument(alloc, "links"))
+}
+
+/// What `replay` takes: besides `--script S` or `--control [--workers W]`.
 fn replay_arguments<'a>(alloc: Global) -> Result<clap::Command<'a>, AllocError>
     ensures { IfOk result (λ arguments. app_of arguments ≡ replay_arguments) }
 {
-    run_arguments(alloc, "replay")?
+    logged_arguments(alloc)?
         .arg(option_argument(alloc, "script"))?
-        .arg(flag_argument(alloc, "log"))?
-        .arg(option_argument(alloc, "links"))
+        .arg(flag_argument(alloc, "control"))?
+        .arg(option_argument(alloc, "workers"))
+}
+
+/// What `trial` takes: `N`.
+fn trial_arguments<'a>(alloc: Global) -> Result<clap::Command<'a>, AllocError>
+    ensures { IfOk result (λ arguments. app_of arguments ≡ trial_arguments) }
+{
+    without_arguments(alloc, "trial").arg(positional_argument(alloc, "number", true))
 }
 
 /// What is found in the words behind a command's name, or none where they are refused. The one error is that memory ran out.
@@ -191,6 +228,62 @@ fn links_by(text: Option<&str>) -> Option<usize>
     }
 }
 
+/// For how many workers a controller asks at most, by the text behind `--workers`: a number from 1 to 16, or none.
+fn workers_by(text: Option<&str>) -> Option<u8>
+    ensures value { result ≡ workers_by (option_copied text.entry) }
+    ensures within { IfSome result (λ workers. (1 ≤ workers) × (workers ≤ task_limits.WORKERS)) }
+{
+    match text {
+        Some(text) => match number_within(1, u64::from(WORKERS), text.as_bytes()) {
+            Some(workers) => Some(workers as u8),
+            None => None,
+        },
+        None => Some(DEFAULT_WORKERS),
+    }
+}
+
+/// What asks, by the text behind `--script`, by whether `--control` is there, and by the workers, from 1 to 16: one of the two,
+/// and not both.
+fn leader_by(
+    alloc: Global,
+    script: Option<&str>,
+    control: bool,
+    workers: u8,
+) -> Result<Option<Leader>, AllocError>
+    requires some { 1 ≤ workers }
+    requires few { workers ≤ task_limits.WORKERS }
+    ensures leader { IfOk result (λ leader. option_map leader_of leader ≡ leader_by (option_copied script.entry) control workers) }
+    ensures workers { IfOk result (λ leader. IfSome leader HasWorkers) }
+{
+    match script {
+        Some(file) => {
+            if control {
+                return Ok(None);
+            }
+            let file = String::from_str(alloc, file)?;
+            Ok(Some(Leader::Script { file }))
+        }
+        None => {
+            if control {
+                return Ok(Some(Leader::Control { workers }));
+            }
+            Ok(None)
+        }
+    }
+}
+
+/// What asks, by what was found.
+fn leader_in(alloc: Global, found: &ArgMatches<'_>) -> Result<Option<Leader>, AllocError>
+    ensures leader { IfOk result (λ leader. option_map leader_of leader ≡ leader_in (entries found.now)) }
+    ensures workers { IfOk result (λ leader. IfSome leader HasWorkers) }
+{
+    let Some(workers) = workers_by(text_of(found, "workers")) else {
+        return Ok(None);
+    };
+    let control = is_given(found, "control");
+    leader_by(alloc, text_of(found, "script"), control, workers)
+}
+
 /// What a run takes, by what was found.
 fn run_by(alloc: Global, found: &ArgMatches<'_>) -> Result<Option<Run>, AllocError>
     ensures task { IfOk result (λ run. option_map task_of run ≡ task_by (entries found.now)) }
@@ -250,7 +343,7 @@ fn replay_by(alloc: Global, words: &[String]) -> Result<Option<Command>, AllocEr
     let Some(found) = found_in(replay_arguments(alloc)?, words)? else {
         return Ok(None);
     };
-    let Some(script) = text_of(&found, "script") else {
+    let Some(leader) = leader_in(alloc, &found)? else {
         return Ok(None);
     };
     let Some(links) = links_by(text_of(&found, "links")) else {
@@ -259,14 +352,32 @@ fn replay_by(alloc: Global, words: &[String]) -> Result<Option<Command>, AllocEr
     let Some(run) = run_by(alloc, &found)? else {
         return Ok(None);
     };
-    let script = String::from_str(alloc, script)?;
     let log = is_given(&found, "log");
     Ok(Some(Command::Replay(Replay {
         run,
-        script,
+        leader,
         links,
         log,
     })))
+}
+
+/// The command `trial` with these words behind its name, where they are its.
+fn trial_by(alloc: Global, words: &[String]) -> Result<Option<Command>, AllocError>
+    ensures meant { IfOk result (λ c. IsMeant c (option_and_then trial_by (found_in trial_arguments (map string_bytes words.now)))) }
+    ensures ranges { IfOk result (λ c. IfSome c IsInRange) }
+{
+    let Some(found) = found_in(trial_arguments(alloc)?, words)? else {
+        return Ok(None);
+    };
+    let Some(text) = text_of(&found, "number") else {
+        return Ok(None);
+    };
+    let Some(number) = number_within(0, TRIAL_LIMIT, text.as_bytes()) else {
+        return Ok(None);
+    };
+    Ok(Some(Command::Trial {
+        number: number as u16,
+    }))
 }
 
 /// The first word and those behind it.
@@ -292,6 +403,8 @@ pub fn command_of(alloc: Global, words: &[String]) -> Result<Option<Command>, Al
                 check_by(alloc, rest)
             } else if name == "replay" {
                 replay_by(alloc, rest)
+            } else if name == "trial" {
+                trial_by(alloc, rest)
             } else {
                 Ok(None)
             }

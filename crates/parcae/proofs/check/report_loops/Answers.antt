@@ -1,4 +1,4 @@
-use Rattle.std.proofs.Common.{refl, ap, ◌∙◌, [], arith}
+use Rattle.std.proofs.Common.{ap, ◌∙◌, [], arith}
 use Rattle.std.proofs.KnownBytes.{Appends-nil}
 use Rattle.nona_report.specs.Report.{report_text}
 use Rattle.nona_stages.specs.Seen.{seen_of}

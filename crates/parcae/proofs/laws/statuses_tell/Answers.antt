@@ -1,9 +1,11 @@
+use Rattle.std.proofs.Common.{arith}
+use Rattle.parcae.specs.declared.words.TheConstants.{DEFAULT_TURNS}
 use Rattle.parcae.proofs.Clauses.{tells_meaning, tells_usage, tells_refused, tells_input, tells_script, tells_failed, tells_unwritten, tells_long, tells_full}
 use Rattle.parcae.proofs.Fronting.{tells_front}
 use Rattle.parcae.proofs.laws.statuses_tell.Goals as goal
 
 pub returns-clause-ended : goal.returns-clause-ended
-returns-clause-ended c = tells_meaning
+returns-clause-ended c = tells_meaning (λ n. c.trial_runs_to_its_end.ensures.each n DEFAULT_TURNS (omega arith))
 
 pub returns-clause-usage : goal.returns-clause-usage
 returns-clause-usage c = tells_usage

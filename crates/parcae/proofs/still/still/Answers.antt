@@ -1,10 +1,7 @@
-use Rattle.std.proofs.Common.{[], append-nil, sym, refl, None, Some}
+use Rattle.std.proofs.Common.{[], append-nil, sym, refl, None}
 use Rattle.parcae.specs.declared.refusal.Refusal.TheVariants.{Usage}
 use Rattle.parcae.specs.Due.{DueOfCommand}
 use Rattle.parcae.specs.Files.{seen}
-use Rattle.parcae.specs.Meant.{task_of}
-use Rattle.parcae.specs.Words.{check, replay, meant}
-use Rattle.parcae.specs.Answers.{Answers}
 use Rattle.parcae.proofs.Ending.{ends_refused}
 use Rattle.parcae.proofs.Answering.{starved_answer}
 use Rattle.parcae.proofs.still.still.Goals as goal
@@ -24,6 +21,11 @@ pub returns-in-Ok-Some-Replay-clause-answers : goal.returns-in-Ok-Some-Replay-cl
 returns-in-Ok-Some-Replay-clause-answers g c =
     let told = rw (c.in-Ok-Some-Replay.field-0-is, c.in-Ok-Some-Replay.field-0-0-is) at c.in-Ok-Some-Replay.ensures in
     rw told.meant c.replay.ensures.answers
+
+pub returns-in-Ok-Some-Trial-clause-answers : goal.returns-in-Ok-Some-Trial-clause-answers
+returns-in-Ok-Some-Trial-clause-answers g c =
+    let told = rw (c.in-Ok-Some-Trial.field-0-is, c.in-Ok-Some-Trial.field-0-0-is) at c.in-Ok-Some-Trial.ensures in
+    rw told.meant c.trial.ensures.answers
 
 -- the words are no command, and that line went out
 pub returns-in-Ok-None-clause-answers : goal.returns-in-Ok-None-clause-answers
