@@ -1,5 +1,5 @@
 -- What is told of a call that was broken off, by what was written.
-use Rattle.std.proofs.Common.{◌≡◌, ◌≢◌, ◌⊎◌, ℕ, ◌≤◌, Bool, ℤ, List, [], ◌∷◌, ◌++◌, length, length-append, ap, sym, refl, ◌∙◌, subst, None, Some, inl, inr, arith}
+use Rattle.std.proofs.Common.{◌≡◌, ◌≢◌, ◌⊎◌, ℕ, ◌≤◌, Bool, ℤ, List, [], ◌++◌, length, length-append, ap, sym, refl, ◌∙◌, subst, None, Some, inl, inr, arith}
 use Rattle.std.proofs.lemmas.List.{append_cancel_left}
 use Rattle.std.proofs.lemmas.List.Concat.{flat_map-append}
 use Rattle.std.specs.declared.option.Option.{Option}
@@ -20,7 +20,7 @@ use Rattle.parcae.specs.declared.refusal.Refusal.TheVariants as refusal
 use Rattle.parcae.specs.declared.status.Status.{Status}
 use Rattle.parcae.specs.declared.status.Status.TheVariants as status
 use Rattle.parcae.specs.Words.{seq, check, replay, trial}
-use Rattle.parcae.specs.Trials.{trial_run, DueOfTrial, trial_ran, trial_full, trial_broken, trial_unbegun}
+use Rattle.parcae.specs.Trials.{trial_run, DueOfTrial, trial_ran, trial_full, trial_short, trial_unbegun}
 use Rattle.parcae.specs.Summary.{summary_text}
 use Rattle.parcae.specs.Texts.{refusal_line, refusal_status}
 use Rattle.parcae.specs.Told.{Told, bare, finished, IsBare, Keeps}
@@ -116,11 +116,11 @@ drive_cut tree es ran stands memory asked sent told front written eb ea (behind 
     let same : written ≡ printed ++ w = same_written sent.before sent.after front written (printed ++ w) eb ea h in
     drive_behind tree es ran stands memory asked report told printed later written w same k (drive_whole tree es ran stands memory asked _ report printed later d refl)
 
--- what is due of a trial, early
-trial_early : (n : ℕ) (way : Way) (log : LogView) (printed : List ℕ) → DueOfTrial n way → way ≡ Early log printed → printed ≡ []
+-- a trial is not due early
+trial_early : (n : ℕ) (way : Way) (log : LogView) (printed : List ℕ) → DueOfTrial n way → way ≢ Early log printed
 trial_early n way log printed (trial_ran l s ends few) e = cc
 trial_early n way log printed (trial_full l s why) e = cc
-trial_early n way log printed (trial_broken l s few) e = cc
+trial_early n way log printed (trial_short l s few) e = cc
 trial_early n way log printed trial_unbegun e = cc
 
 -- the summary of a trial was broken off, or the line of a full log
@@ -136,16 +136,9 @@ trial_behind n report told printed later written w rest same e k (is_full_trial 
     in_full_log (record { outcome = k.outcome ∙ ap (λ (t : Told). t.outcome) er; store = k.store ∙ ap (λ (t : Told). t.store) er })
     (ap (λ (x : LogView). length x.intervals) (k.log ∙ ap (λ (t : Told). t.log) er) ∙ few)
 
--- nothing is a front of nothing alone
-front_of_none : (written rest : List ℕ) → [] ≡ written ++ rest → written ≡ []
-front_of_none [] rest e = refl
-front_of_none (x ∷ xs) rest e = cc
-
 trial_cut : (n : ℕ) (sent : Sent) (told : Told) (front written : List ℕ)
     → sent.before ≡ Some front → sent.after ≡ Some (front ++ written) → Breaks (DueOfTrial n) sent told → IsCutTrial n written told
-trial_cut n sent told front written eb ea (within printed w rest d e h b) =
-    let same : written ≡ w = same_written sent.before sent.after front written w eb ea h in
-    before_summary b (same ∙ front_of_none w rest (sym (trial_early n _ told.log printed d refl) ∙ e))
+trial_cut n sent told front written eb ea (within printed w rest d e h b) = absurd (trial_early n _ told.log printed d refl)
 trial_cut n sent told front written eb ea (behind report printed later w rest d e h k) =
     let same : written ≡ printed ++ w = same_written sent.before sent.after front written (printed ++ w) eb ea h in
     trial_behind n report told printed later written w rest same e k (trial_whole n _ report printed later d refl)
@@ -274,4 +267,4 @@ tells_front one (Some (trial number)) looked sent told (added, grown, write_fail
 tells_front one (Some (trial number)) looked sent told (added, grown, no_memory e b) = λ written cut.
     trial_cut number sent told cut.front written cut.before cut.after (breaks_due _ _ (λ way apart d. d.1) sent told b)
 tells_front one (Some (trial number)) looked sent told (added, grown, unbegun e d h b) = λ written cut.
-    before_summary b (same_written sent.before sent.after cut.front written [] cut.before cut.after h)
+    before_summary e b (same_written sent.before sent.after cut.front written [] cut.before cut.after h)

@@ -23,7 +23,7 @@ use Rattle.parcae.specs.declared.refusal.Source.TheVariants as source
 use Rattle.parcae.specs.declared.status.Status.TheVariants as status
 use Rattle.parcae.specs.Words.{Leader, by_script, by_control, Command, seq, check, replay, trial}
 use Rattle.parcae.specs.Leads.{Lead}
-use Rattle.parcae.specs.Trials.{trial_run, trial_entries, IsTrialLog, DueOfTrial, trial_ran, trial_full, trial_broken, trial_unbegun}
+use Rattle.parcae.specs.Trials.{trial_run, trial_entries, IsTrialLog, DueOfTrial, trial_ran, trial_full, trial_short, trial_unbegun}
 use Rattle.parcae.specs.Summary.{summary_text}
 use Rattle.fate_io.specs.Reading.{Held, Looked}
 use Rattle.fate_io.specs.Outside.{Outside, outside_of}
@@ -75,7 +75,7 @@ pub trial_whole : (n : ℕ) (way : Way) (report : Told) (printed later : List �
     → DueOfTrial n way → way ≡ Whole report printed later → TrialWhole n report printed later
 trial_whole n way report printed later (trial_ran l s ends few) e = is_tried l s ends (cc) (cc) (cc)
 trial_whole n way report printed later (trial_full l s why) e = is_full_trial l why.0 (cc) (cc) (cc)
-trial_whole n way report printed later (trial_broken l s few) e = cc
+trial_whole n way report printed later (trial_short l s few) e = cc
 trial_whole n way report printed later trial_unbegun e = cc
 
 -- a command's files were read, and its run gives this whole text

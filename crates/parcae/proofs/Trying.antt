@@ -17,11 +17,11 @@ use Rattle.morta_exec.specs.Places.{most}
 use Rattle.parcae.specs.declared.replays.Driven.{Driven}
 use Rattle.parcae.specs.declared.status.Status.TheVariants as status
 use Rattle.parcae.specs.declared.summary.Summary.{Summary}
-use Rattle.parcae.specs.Ends.{within, Ends, no_memory, EndsShort}
+use Rattle.parcae.specs.Ends.{Ends, unbegun, EndsShort}
 use Rattle.parcae.specs.Summary.{summary_of, summary_lines, text_of_lines, summary_text}
 use Rattle.parcae.specs.Texts.{full_line}
 use Rattle.parcae.specs.Told.{Told, logged, finished, once_sent}
-use Rattle.parcae.specs.Trials.{trial_run, trial_entries, IsTrialLog, StopsTrial, DueOfTrial, trial_ran, trial_full, trial_broken}
+use Rattle.parcae.specs.Trials.{trial_run, trial_entries, IsTrialLog, StopsTrial, DueOfTrial, trial_ran, trial_full, trial_short}
 use Rattle.parcae.proofs.Ending.{ends_behind}
 use Rattle.parcae.proofs.Replaying.{ends_still}
 
@@ -61,6 +61,6 @@ pub ends_tried_short : (n : ℕ) (log : LogView) (a b : Option (List ℕ)) (f g 
 ends_tried_short n log a b f g WriteFailed told stands few stops ends = absurd stops
 ends_tried_short n log a b f g NoMemory told stands few stops ends =
     ends_still (DueOfTrial n) a a b f f g (logged status.NoMemory log) told ends.0 ends.1
-    (no_memory refl (within [] [] [] (trial_broken log stands few) refl (Appends-nil a) (record { outcome = refl; store = refl })))
+    (unbegun refl (trial_short log stands few) (Appends-nil a) (record { outcome = refl; store = refl }))
 ends_tried_short n log a b f g LogFull told stands few stops ends =
     ends_behind (DueOfTrial n) a a b f f g (logged status.LogFull log) told [] full_line (trial_full log stands stops) (Appends-nil a) (omega arith) ends

@@ -16,7 +16,7 @@ use Rattle.parcae.specs.Told.{Told, bare, logged, once_sent, IsBare, Keeps}
 
 -- What may be due of a call. Where nothing outside fails, a whole text: the lines of printed numbers, and then what stands
 -- behind them, with a report. Where something fails within the lines of printed numbers, a front of these lines, with a log.
--- Where memory runs out before a run, nothing, with the log so far.
+-- Where memory runs out before anything is written, nothing, with the log so far.
 pub data Way : Type 0 where
   Whole : (report : Told) → (printed behind : List ℕ) → Way
   Early : (log : LogView) → (printed : List ℕ) → Way
@@ -31,7 +31,7 @@ pub data Breaks (due : Way → Type 0) (sent : Sent) (told : Told) : Type 0 wher
       → Appends sent.before sent.after (printed ++ written) → Keeps report told → Breaks due sent told
 
 -- A call ends with a report and a text that were due; or is broken off by the sink, whose count of faults rose, or for want
--- of memory; or memory runs out before a run, and nothing is written.
+-- of memory; or memory runs out before anything is written.
 pub data Ends (due : Way → Type 0) (sent : Sent) (told : Told) : Type 0 where
   whole : (printed later : List ℕ) → due (Whole told printed later) → Appends sent.before sent.after (printed ++ later) → Ends due sent told
   write_failed : told.status ≡ status.WriteFailed → Breaks due sent told → Rose sent.faults_before sent.faults → Ends due sent told

@@ -205,10 +205,10 @@ pub record IsCut (looked : Looked) (sent : Sent) (told : Told) (written : List �
 abbrev pub IsFront : List ℕ → List ℕ → Type 0
 IsFront written text = (rest : List ℕ) × (text ≡ written ++ rest)
 
--- A trial was broken off: in its run, or before it, nothing was written and neither outcome nor store are told; behind it, both
--- are, and a front of the summary was written; or the log is full, and neither is told.
+-- A trial was broken off: for want of memory in its run, or before it, where nothing was written and neither outcome nor store
+-- are told; behind its run, where both are, and a front of the summary was written; or where the log is full, and neither is told.
 pub data IsCutTrial (number : ℕ) (written : List ℕ) (told : Told) : Type 0 where
-  before_summary : IsBare told → written ≡ [] → IsCutTrial number written told
+  before_summary : told.status ≡ status.NoMemory → IsBare told → written ≡ [] → IsCutTrial number written told
   in_summary : told.outcome ≡ Some (trial_run number).end → told.store ≡ Some (trial_run number).store
       → IsFront written (summary_text number (trial_run number).store told.log) → IsCutTrial number written told
   in_full_log : IsBare told → length told.log.intervals ≡ most → IsCutTrial number written told

@@ -14,7 +14,7 @@ use Rattle.trial.specs.Tree.{trial_tree}
 use Rattle.parcae.specs.declared.status.Status.TheVariants as status
 use Rattle.parcae.specs.declared.trials.TheConstants.{TRIAL_WORKERS}
 use Rattle.parcae.specs.declared.words.TheConstants.{DEFAULT_LINKS, DEFAULT_TURNS}
-use Rattle.parcae.specs.Ends.{Way, Whole, Early, Unbegun}
+use Rattle.parcae.specs.Ends.{Way, Whole, Unbegun}
 use Rattle.parcae.specs.Entered.{entries_in}
 use Rattle.parcae.specs.Leads.{control_leads, IsLedReplay}
 use Rattle.parcae.specs.Summary.{summary_text}
@@ -46,5 +46,5 @@ pub data DueOfTrial (n : ℕ) : Way → Type 0 where
   trial_ran : (l : LogView) → IsTrialLog n l → EndsAll (trial_entries n) (last_in l.intervals) → length l.intervals ≤ most
       → DueOfTrial n (Whole (finished (trial_run n) l) [] (summary_text n (trial_run n).store l))
   trial_full : (l : LogView) → IsTrialLog n l → StopsTrial n l LogFull → DueOfTrial n (Whole (logged status.LogFull l) [] full_line)
-  trial_broken : (l : LogView) → IsTrialLog n l → length l.intervals ≤ most → DueOfTrial n (Early l [])
+  trial_short : (l : LogView) → IsTrialLog n l → length l.intervals ≤ most → DueOfTrial n (Unbegun l)
   trial_unbegun : DueOfTrial n (Unbegun empty_log)
