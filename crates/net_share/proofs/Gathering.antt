@@ -13,7 +13,7 @@ use Rattle.nona_store.specs.Overlays.{over_of, under, arrays_under, changes_of}
 use Rattle.nona_store.proofs.Overlaying.{covered, as_long, as_many}
 use Rattle.nona_tree.specs.Memory.{Memory, scalar_at, cells_of, cell_at, assign}
 use Rattle.net_share.specs.Begins.{AreThere, AreApart}
-use Rattle.net_share.specs.Gathered.{views_of, AreLeft, AreLeftBehind, with_written, with_changes, own_scalar, joined_with, with_joined, gathered}
+use Rattle.net_share.specs.Gathered.{views_of, AreChanged, AreChangedBehind, AreLeft, AreLeftBehind, with_written, with_changes, own_scalar, joined_with, with_joined, gathered}
 use Rattle.net_share.specs.Settled.{settled_cell, joined_all, IsSettledFrom}
 
 -- a number ties with itself
@@ -219,43 +219,91 @@ module _ {T : Type 0} (share : T → ShareView) where
         printed = joined_printed rs tasks base ∙ changes_printed m m tasks;
       }
 
+  -- what tasks have written, changed task after task
+
+  -- so many of the first tasks are changed in this way, and the others are as they were
+  abbrev pub AreChangedBelow : ℕ → ((ℕ → ℕ → Option ℤ) → ℕ → ℕ → Option ℤ) → List T → List T → Type 0
+  AreChangedBelow zero f xs ys = xs ≡ ys
+  AreChangedBelow (suc n) f [] [] = Unit {0}
+  AreChangedBelow (suc n) f [] (y ∷ ys) = ⊥
+  AreChangedBelow (suc n) f (x ∷ xs) [] = ⊥
+  AreChangedBelow (suc n) f (x ∷ xs) (y ∷ ys) =
+      ((share y).scalars ≡ (share x).scalars) × ((share y).printed ≡ (share x).printed)
+      × (over_of (share y).written ≡ f (over_of (share x).written)) × AreChangedBelow n f xs ys
+
+  -- with one more
+  next_changed : (n : ℕ) (f : (ℕ → ℕ → Option ℤ) → ℕ → ℕ → Option ℤ) (xs ys : List T) (x y : T) → n < length ys → get_or ys n x ≡ x → (share y).scalars ≡ (share x).scalars
+      → (share y).printed ≡ (share x).printed → over_of (share y).written ≡ f (over_of (share x).written) → AreChangedBelow n f xs ys → AreChangedBelow (suc n) f xs (set ys n y)
+  next_changed n f xs [] x y below is same prints written h = absurd (omega (arith, below))
+  next_changed zero f xs (z ∷ ys) x y below is same prints written h =
+      subst (λ (zs : List T). AreChangedBelow 1 f zs (y ∷ ys)) (sym h)
+      ((same ∙ ap (λ (t : T). (share t).scalars) (sym is), prints ∙ ap (λ (t : T). (share t).printed) (sym is), written ∙ ap (λ (t : T). f (over_of (share t).written)) (sym is), refl))
+  next_changed (suc n) f [] (z ∷ ys) x y below is same prints written h = absurd h
+  next_changed (suc n) f (w ∷ xs) (z ∷ ys) x y below is same prints written h =
+      (h.0, h.1, h.2, next_changed n f xs ys x y (omega (arith, below)) is same prints written h.3)
+
+  pub changed_on : (n : ℕ) (f : (ℕ → ℕ → Option ℤ) → ℕ → ℕ → Option ℤ) (xs ys : List T) (x y : T) → n < length ys → get_or ys n x ≡ x → (share y).scalars ≡ (share x).scalars
+      → (share y).printed ≡ (share x).printed → over_of (share y).written ≡ f (over_of (share x).written) → AreChangedBelow n f xs ys → AreChangedBelow (n + 1) f xs (set ys n y)
+  changed_on n f xs ys x y below is same prints written h =
+      subst (λ (k : ℕ). AreChangedBelow k f xs (set ys n y)) (let e : suc n ≡ n + 1 = omega arith in e) (next_changed n f xs ys x y below is same prints written h)
+
+  -- and all of them
+  pub all_changed : (n : ℕ) (f : (ℕ → ℕ → Option ℤ) → ℕ → ℕ → Option ℤ) (xs ys : List T) → length ys ≤ n → AreChangedBelow n f xs ys → AreChanged share f xs ys
+  all_changed zero f [] [] past h = tt
+  all_changed zero f (x ∷ xs) [] past h = absurd (cc)
+  all_changed zero f xs (y ∷ ys) past h = absurd (omega (arith, past))
+  all_changed (suc n) f [] [] past h = tt
+  all_changed (suc n) f [] (y ∷ ys) past h = absurd h
+  all_changed (suc n) f (x ∷ xs) [] past h = absurd h
+  all_changed (suc n) f (x ∷ xs) (y ∷ ys) past h = (h.0, h.1, h.2, all_changed n f xs ys (omega (arith, past)) h.3)
+
+  -- the first task is as it was, and so many tasks without one behind it are changed in this way
+  abbrev pub AreChangedBehindBelow : ℕ → ((ℕ → ℕ → Option ℤ) → ℕ → ℕ → Option ℤ) → List T → List T → Type 0
+  AreChangedBehindBelow zero f xs ys = ⊥
+  AreChangedBehindBelow (suc n) f [] [] = Unit {0}
+  AreChangedBehindBelow (suc n) f [] (y ∷ ys) = ⊥
+  AreChangedBehindBelow (suc n) f (x ∷ xs) [] = ⊥
+  AreChangedBehindBelow (suc n) f (x ∷ xs) (y ∷ ys) = (y ≡ x) × AreChangedBelow n f xs ys
+
+  pub rest_begins : (f : (ℕ → ℕ → Option ℤ) → ℕ → ℕ → Option ℤ) (xs : List T) → AreChangedBehindBelow 1 f xs xs
+  rest_begins f [] = tt
+  rest_begins f (x ∷ xs) = (refl, refl)
+
+  -- with one more
+  next_of_rest : (n : ℕ) (f : (ℕ → ℕ → Option ℤ) → ℕ → ℕ → Option ℤ) (xs ys : List T) (x y : T) → n < length ys → get_or ys n x ≡ x → (share y).scalars ≡ (share x).scalars
+      → (share y).printed ≡ (share x).printed → over_of (share y).written ≡ f (over_of (share x).written) → AreChangedBehindBelow n f xs ys → AreChangedBehindBelow (suc n) f xs (set ys n y)
+  next_of_rest zero f xs ys x y below is same prints written h = absurd h
+  next_of_rest (suc n) f [] [] x y below is same prints written h = absurd (omega (arith, below))
+  next_of_rest (suc n) f [] (z ∷ ys) x y below is same prints written h = absurd h
+  next_of_rest (suc n) f (w ∷ xs) [] x y below is same prints written h = absurd h
+  next_of_rest (suc n) f (w ∷ xs) (z ∷ ys) x y below is same prints written h =
+      (h.0, next_changed n f xs ys x y (omega (arith, below)) is same prints written h.1)
+
+  pub rest_on : (n : ℕ) (f : (ℕ → ℕ → Option ℤ) → ℕ → ℕ → Option ℤ) (xs ys : List T) (x y : T) → n < length ys → get_or ys n x ≡ x → (share y).scalars ≡ (share x).scalars
+      → (share y).printed ≡ (share x).printed → over_of (share y).written ≡ f (over_of (share x).written) → AreChangedBehindBelow n f xs ys → AreChangedBehindBelow (n + 1) f xs (set ys n y)
+  rest_on n f xs ys x y below is same prints written h =
+      subst (λ (k : ℕ). AreChangedBehindBelow k f xs (set ys n y)) (let e : suc n ≡ n + 1 = omega arith in e) (next_of_rest n f xs ys x y below is same prints written h)
+
+  -- and all of them
+  pub all_rest : (n : ℕ) (f : (ℕ → ℕ → Option ℤ) → ℕ → ℕ → Option ℤ) (xs ys : List T) → length ys ≤ n → AreChangedBehindBelow n f xs ys → AreChangedBehind share f xs ys
+  all_rest zero f xs ys past h = absurd h
+  all_rest (suc n) f [] [] past h = tt
+  all_rest (suc n) f [] (y ∷ ys) past h = absurd h
+  all_rest (suc n) f (x ∷ xs) [] past h = absurd h
+  all_rest (suc n) f (x ∷ xs) (y ∷ ys) past h = (h.0, all_changed n f xs ys (omega (arith, past)) h.1)
+
   -- what tasks have written, once the store's own values are forgotten
 
   -- so many of the first tasks have only what isn't in the store already, and the others are as they were
   abbrev pub AreLeftBelow : ℕ → Memory → List T → List T → Type 0
-  AreLeftBelow zero m xs ys = xs ≡ ys
-  AreLeftBelow (suc n) m [] [] = Unit {0}
-  AreLeftBelow (suc n) m [] (y ∷ ys) = ⊥
-  AreLeftBelow (suc n) m (x ∷ xs) [] = ⊥
-  AreLeftBelow (suc n) m (x ∷ xs) (y ∷ ys) =
-      ((share y).scalars ≡ (share x).scalars) × ((share y).printed ≡ (share x).printed)
-      × (over_of (share y).written ≡ changes_of m (over_of (share x).written)) × AreLeftBelow n m xs ys
-
-  -- with one more
-  next_left : (n : ℕ) (m : Memory) (xs ys : List T) (x y : T) → n < length ys → get_or ys n x ≡ x → (share y).scalars ≡ (share x).scalars → (share y).printed ≡ (share x).printed
-      → over_of (share y).written ≡ changes_of m (over_of (share x).written) → AreLeftBelow n m xs ys → AreLeftBelow (suc n) m xs (set ys n y)
-  next_left n m xs [] x y below is same prints written h = absurd (omega (arith, below))
-  next_left zero m xs (z ∷ ys) x y below is same prints written h =
-      subst (λ (zs : List T). AreLeftBelow 1 m zs (y ∷ ys)) (sym h)
-      ((same ∙ ap (λ (t : T). (share t).scalars) (sym is), prints ∙ ap (λ (t : T). (share t).printed) (sym is), written ∙ ap (λ (t : T). changes_of m (over_of (share t).written)) (sym is), refl))
-  next_left (suc n) m [] (z ∷ ys) x y below is same prints written h = absurd h
-  next_left (suc n) m (w ∷ xs) (z ∷ ys) x y below is same prints written h =
-      (h.0, h.1, h.2, next_left n m xs ys x y (omega (arith, below)) is same prints written h.3)
+  AreLeftBelow n m xs ys = AreChangedBelow n (changes_of m) xs ys
 
   pub left_on : (n : ℕ) (m : Memory) (xs ys : List T) (x y : T) → n < length ys → get_or ys n x ≡ x → (share y).scalars ≡ (share x).scalars → (share y).printed ≡ (share x).printed
       → over_of (share y).written ≡ changes_of m (over_of (share x).written) → AreLeftBelow n m xs ys → AreLeftBelow (n + 1) m xs (set ys n y)
-  left_on n m xs ys x y below is same prints written h =
-      subst (λ (k : ℕ). AreLeftBelow k m xs (set ys n y)) (let e : suc n ≡ n + 1 = omega arith in e) (next_left n m xs ys x y below is same prints written h)
+  left_on n m xs ys x y = changed_on n (changes_of m) xs ys x y
 
-  -- and all of them
   pub all_left : (n : ℕ) (m : Memory) (xs ys : List T) → length ys ≤ n → AreLeftBelow n m xs ys → AreLeft share m xs ys
-  all_left zero m [] [] past h = tt
-  all_left zero m (x ∷ xs) [] past h = absurd (cc)
-  all_left zero m xs (y ∷ ys) past h = absurd (omega (arith, past))
-  all_left (suc n) m [] [] past h = tt
-  all_left (suc n) m [] (y ∷ ys) past h = absurd h
-  all_left (suc n) m (x ∷ xs) [] past h = absurd h
-  all_left (suc n) m (x ∷ xs) (y ∷ ys) past h = (h.0, h.1, h.2, all_left n m xs ys (omega (arith, past)) h.3)
+  all_left n m xs ys = all_changed n (changes_of m) xs ys
 
   -- what is left, written into a store, is what the tasks have changed
   pub left_written : (was m : Memory) (tasks left : List T) → AreLeft share was tasks left → with_written share left m ≡ with_changes share was tasks m
@@ -283,38 +331,17 @@ module _ {T : Type 0} (share : T → ShareView) where
 
   -- the first task is as it was, and so many tasks without one behind it have only what isn't in the store already
   abbrev pub AreLeftBehindBelow : ℕ → Memory → List T → List T → Type 0
-  AreLeftBehindBelow zero m xs ys = ⊥
-  AreLeftBehindBelow (suc n) m [] [] = Unit {0}
-  AreLeftBehindBelow (suc n) m [] (y ∷ ys) = ⊥
-  AreLeftBehindBelow (suc n) m (x ∷ xs) [] = ⊥
-  AreLeftBehindBelow (suc n) m (x ∷ xs) (y ∷ ys) = (y ≡ x) × AreLeftBelow n m xs ys
+  AreLeftBehindBelow n m xs ys = AreChangedBehindBelow n (changes_of m) xs ys
 
   pub behind_begins : (m : Memory) (xs : List T) → AreLeftBehindBelow 1 m xs xs
-  behind_begins m [] = tt
-  behind_begins m (x ∷ xs) = (refl, refl)
-
-  -- with one more
-  next_behind : (n : ℕ) (m : Memory) (xs ys : List T) (x y : T) → n < length ys → get_or ys n x ≡ x → (share y).scalars ≡ (share x).scalars → (share y).printed ≡ (share x).printed
-      → over_of (share y).written ≡ changes_of m (over_of (share x).written) → AreLeftBehindBelow n m xs ys → AreLeftBehindBelow (suc n) m xs (set ys n y)
-  next_behind zero m xs ys x y below is same prints written h = absurd h
-  next_behind (suc n) m [] [] x y below is same prints written h = absurd (omega (arith, below))
-  next_behind (suc n) m [] (z ∷ ys) x y below is same prints written h = absurd h
-  next_behind (suc n) m (w ∷ xs) [] x y below is same prints written h = absurd h
-  next_behind (suc n) m (w ∷ xs) (z ∷ ys) x y below is same prints written h =
-      (h.0, next_left n m xs ys x y (omega (arith, below)) is same prints written h.1)
+  behind_begins m xs = rest_begins (changes_of m) xs
 
   pub behind_on : (n : ℕ) (m : Memory) (xs ys : List T) (x y : T) → n < length ys → get_or ys n x ≡ x → (share y).scalars ≡ (share x).scalars → (share y).printed ≡ (share x).printed
       → over_of (share y).written ≡ changes_of m (over_of (share x).written) → AreLeftBehindBelow n m xs ys → AreLeftBehindBelow (n + 1) m xs (set ys n y)
-  behind_on n m xs ys x y below is same prints written h =
-      subst (λ (k : ℕ). AreLeftBehindBelow k m xs (set ys n y)) (let e : suc n ≡ n + 1 = omega arith in e) (next_behind n m xs ys x y below is same prints written h)
+  behind_on n m xs ys x y = rest_on n (changes_of m) xs ys x y
 
-  -- and all of them
   pub all_behind : (n : ℕ) (m : Memory) (xs ys : List T) → length ys ≤ n → AreLeftBehindBelow n m xs ys → AreLeftBehind share m xs ys
-  all_behind zero m xs ys past h = absurd h
-  all_behind (suc n) m [] [] past h = tt
-  all_behind (suc n) m [] (y ∷ ys) past h = absurd h
-  all_behind (suc n) m (x ∷ xs) [] past h = absurd h
-  all_behind (suc n) m (x ∷ xs) (y ∷ ys) past h = (h.0, all_left n m xs ys (omega (arith, past)) h.1)
+  all_behind n m xs ys = all_rest n (changes_of m) xs ys
 
   -- what is left then, written into the store, is what the tasks have changed, since what the first one wrote of the store's own changes nothing
   behind_written : (m : Memory) (tasks left : List T) → AreLeftBehind share m tasks left → with_written share left m ≡ with_changes share m tasks m

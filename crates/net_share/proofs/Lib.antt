@@ -3,6 +3,7 @@ mod Moves
 pub mod Keeping
 mod Beginning
 pub mod Gathering
+mod Paging
 mod Apart
 pub mod Listed
 mod Claimed

@@ -3,7 +3,8 @@
 ghost use Rattle.std.specs.Prelude.{◌≡◌, ◌<◌, length};
 ghost use Rattle.nona_tree.specs.Memory.{assign, scalar_at};
 ghost use Rattle.net_share.specs.Begins.{AreThere};
-ghost use Rattle.net_share.specs.Gathered.{AreLeftBehind, gathered, joined_with, with_joined, with_written};
+ghost use Rattle.nona_store.specs.Overlays.{changes_on_page, written_off};
+ghost use Rattle.net_share.specs.Gathered.{AreChanged, AreChangedBehind, AreGatheredAlike, AreLeftBehind, gathered, joined_with, with_joined, with_page, with_written};
 ghost use Rattle.net_share.specs.Tasks.{share_of};
 
 use crate::task::Task;
@@ -60,8 +61,80 @@ fn join_reductions(store: &mut Store, reductions: &[(u32, Fold)], tasks: &[Task]
     }
 }
 
+/// The most pages that one of these tasks has for an array.
+fn most_pages(tasks: &[Task], array: usize) -> usize {
+    let mut most = 0;
+    'tasks: for task in tasks {
+        most = task.overlay().count_pages(array).max(most);
+    }
+    most
+}
+
+/// The most arrays for which one of these tasks has pages.
+fn most_arrays(tasks: &[Task]) -> usize {
+    let mut most = 0;
+    'tasks: for task in tasks {
+        most = task.overlay().count_arrays().max(most);
+    }
+    most
+}
+
+/// Forgets what tasks behind the first one have written, on a page of an array that is there, and the store has already.
+#[tactic(auto, using(crate::proofs::Gathering::rest_begins))]
+fn keep_page(store: &Store, tasks: &mut Vec<Task>, array: usize, index: usize)
+    requires { array < length store.now.arrays }
+    ensures { AreChangedBehind share_of (changes_on_page array index store.now) tasks.old.items tasks.new.items }
+{
+    'tasks: for number in 1..tasks.len() {
+        tasks[number].keep_page(array, index, store);
+    }
+}
+
+/// Moves into a store what tasks have written on a page of an array that is there, one task after another.
+fn move_page(store: &mut Store, tasks: &mut Vec<Task>, array: usize, index: usize)
+    requires { array < length store.old.arrays }
+    ensures store { store.new ≡ with_page share_of array index tasks.old.items store.old }
+    ensures tasks { AreChanged share_of (written_off array index) tasks.old.items tasks.new.items }
+{
+    'tasks: for number in 0..tasks.len() {
+        tasks[number].apply_page(array, index, store);
+    }
+}
+
+/// Settles what tasks have written on a page of an array that is there.
+fn settle_page(store: &mut Store, tasks: &mut Vec<Task>, array: usize, index: usize)
+    requires { array < length store.old.arrays }
+    ensures { AreGatheredAlike share_of store.old tasks.old.items store.new tasks.new.items }
+{
+    keep_page(store, tasks, array, index);
+    move_page(store, tasks, array, index);
+}
+
+/// Settles what tasks have written on an array that is there, page by page.
+fn settle_array(store: &mut Store, tasks: &mut Vec<Task>, array: usize)
+    requires { array < length store.old.arrays }
+    ensures { AreGatheredAlike share_of store.old tasks.old.items store.new tasks.new.items }
+{
+    let most = most_pages(tasks.as_slice(), array);
+    'pages: for index in 0..most {
+        settle_page(store, tasks, array, index);
+    }
+}
+
+/// Settles what tasks have written, array by array and page by page: so what they have on a page, and its cells, is gone through
+/// while the processor has it near, and its memory is given back at once.
+fn settle_pages(store: &mut Store, tasks: &mut Vec<Task>)
+    ensures { AreGatheredAlike share_of store.old tasks.old.items store.new tasks.new.items }
+{
+    let many = most_arrays(tasks.as_slice()).min(store.count_arrays());
+    'arrays: for array in 0..many {
+        settle_array(store, tasks, array);
+    }
+}
+
 /// The store with each cell that tasks have changed and each reduction joined. Takes no memory, and a time in proportion to the
-/// pages in which tasks have written, to the values in them, and to the reductions of each task.
+/// blocks of the tasks' overlays, to the values in them, to the reductions, and for each array to the most pages that a task has of it,
+/// the latter two times the tasks. What the pages leave, which no clause says is nothing, goes task by task.
 #[tactic(auto, using(crate::proofs::Gathering::still_there, crate::proofs::Gathering::left_gathered))]
 pub(crate) fn settled(store: Store, tasks: Vec<Task>, reductions: &[(u32, Fold)]) -> Store
     requires { AreThere reductions.now store.scalars }
@@ -69,6 +142,7 @@ pub(crate) fn settled(store: Store, tasks: Vec<Task>, reductions: &[(u32, Fold)]
 {
     let mut store = store;
     let mut tasks = tasks;
+    settle_pages(&mut store, &mut tasks);
     keep_changes(&store, &mut tasks);
     apply_all(&mut store, tasks.as_slice());
     join_reductions(&mut store, reductions, tasks.as_slice());

@@ -10,11 +10,10 @@ use nona_code::{Frame, UnitEnd};
 use nona_store::{Share, ShareBank, Store};
 use nona_units::Units;
 use std::alloc::AllocError;
-use std::mem;
 
 /// Runs the unit with this number on a task's share of a store. The unit may run: so the one error is that memory ran out, and the
 /// share is then as its middle left it. It declares one scalar at most. The room of the share stays as it is.
-#[tactic(auto, using(crate::proofs::UnitRuns::same_base, crate::proofs::UnitRuns::same_reserved))]
+#[tactic(auto, using(crate::proofs::UnitRuns::same_base, crate::proofs::UnitRuns::same_reserved, crate::proofs::UnitRuns::same_loan))]
 pub fn run_on(
     units: &Units,
     at: usize,
@@ -31,9 +30,8 @@ pub fn run_on(
     ensures room { frame.new.room ≡ frame.old.room }
     ensures reserved { share.new.room ≡ share.old.room }
 {
-    let mut bank = ShareBank::over(store, share.take());
+    let mut bank = ShareBank { store, share };
     let end = frame.unit(units.code(at), &mut bank, turns);
-    mem::forget(mem::replace(share, bank.into_share()));
     match end {
         UnitEnd::Done => Ok(()),
         UnitEnd::Trap { kind: _, at: _ } | UnitEnd::OutOfTurns { at: _ } => unreachable!(),

@@ -2,7 +2,7 @@
 
 ghost use Rattle.std.specs.Prelude.{◌≡◌, ◌<◌, ◌+◌, ◌≤◌, ◌^◌, ◌+ℤ◌, ℕ, pos, drop, length, vec_capacity, FitsSigned, IfOk, OnOk};
 ghost use Rattle.std.specs.Int.{w64};
-ghost use Rattle.nona_store.specs.Overlays.{changes_of, over_of};
+ghost use Rattle.nona_store.specs.Overlays.{changes_of, changes_on_page, over_of, under, written_off, written_on};
 ghost use Rattle.nona_store.specs.Shares.{shared};
 ghost use Rattle.nona_tree.specs.Memory.{Memory};
 ghost use Rattle.net_share.specs.May.{MayRunFirst};
@@ -92,6 +92,29 @@ impl Task {
         ensures written { over_of self.new.share.written ≡ changes_of store.now (over_of self.old.share.written) }
     {
         self.share.keep_changes(store);
+    }
+
+    /// Forgets each value that it has written, on the page with this index of an array of the store, and that the store has there.
+    /// Nothing else of the share changes.
+    pub(crate) fn keep_page(&mut self, array: usize, index: usize, store: &Store)
+        requires { array < length store.now.arrays }
+        ensures scalars { self.new.share.scalars ≡ self.old.share.scalars }
+        ensures printed { self.new.share.printed ≡ self.old.share.printed }
+        ensures written { over_of self.new.share.written ≡ changes_on_page array index store.now (over_of self.old.share.written) }
+    {
+        self.share.keep_page(array, index, store);
+    }
+
+    /// Moves into the store what it has written on the page with this index of an array of the store. Nothing else of the share
+    /// changes.
+    pub(crate) fn apply_page(&mut self, array: usize, index: usize, store: &mut Store)
+        requires { array < length store.old.arrays }
+        ensures scalars { self.new.share.scalars ≡ self.old.share.scalars }
+        ensures printed { self.new.share.printed ≡ self.old.share.printed }
+        ensures left { over_of self.new.share.written ≡ written_off array index (over_of self.old.share.written) }
+        ensures store { store.new ≡ under (written_on array index (over_of self.old.share.written)) store.old }
+    {
+        self.share.apply_page(array, index, store);
     }
 
     /// The cells that it has written.

@@ -63,10 +63,13 @@ fn an_overlay_has_what_was_last_put(rt: HostRuntime) -> Result<(), Fail> {
 fn a_share_has_what_its_bank_was_given(rt: HostRuntime) -> Result<(), Fail> {
     let alloc = rt.alloc();
     let store = started(&rt, alloc)?;
-    let mut bank = ShareBank::over(&store, Share::begin(alloc, Vec::new(alloc)));
+    let mut share = Share::begin(alloc, Vec::new(alloc));
+    let mut bank = ShareBank {
+        store: &store,
+        share: &mut share,
+    };
     bank.push_scalar(9)?;
     bank.print(-1)?;
-    let share = bank.into_share();
     assert_eq!(rt; share.scalars(), [9].as_slice());
     assert_eq!(rt; share.printed(), [-1].as_slice());
     assert_eq!(rt; share.overlay().get(0, 0), None);

@@ -1,5 +1,7 @@
 pub mod Leaving
+mod Lowest
 pub mod Marking
+pub mod Paging
 pub mod Parts
 pub mod Passing
 pub mod Placing

@@ -37,12 +37,12 @@ elsewhere place v written q differs = pick_false (place == q) (Some v) (written 
 
 module _ (size : ℕ) where
   -- what stands in a page that is changed
-  in_page : (pages : List (List (Option ℤ))) (d : ℕ) (page : List (Option ℤ)) (q : ℕ) → d < length pages → q / size ≡ d → at_parts size (slice_set pages d page) q ≡ at_page page (q % size)
+  pub in_page : (pages : List (List (Option ℤ))) (d : ℕ) (page : List (Option ℤ)) (q : ℕ) → d < length pages → q / size ≡ d → at_parts size (slice_set pages d page) q ≡ at_page page (q % size)
   in_page pages d page q within is =
       ap (λ p. at_page p (q % size)) (ap (λ n. get_or (set pages d page) n []) is ∙ get_or-set_same pages d page [] within)
 
   -- and in another one
-  in_other : (pages : List (List (Option ℤ))) (d : ℕ) (page : List (Option ℤ)) (q : ℕ) → (q / size ≡ d → ⊥) → at_parts size (slice_set pages d page) q ≡ at_parts size pages q
+  pub in_other : (pages : List (List (Option ℤ))) (d : ℕ) (page : List (Option ℤ)) (q : ℕ) → (q / size ≡ d → ⊥) → at_parts size (slice_set pages d page) q ≡ at_parts size pages q
   in_other pages d page q differs = ap (λ p. at_page p (q % size)) (get_or-set_other pages d (q / size) page [] differs)
 
   -- a page that is changed at no place

@@ -33,6 +33,10 @@ block_of marks values = up_to BLOCK (value_at marks values)
 abbrev pub AreMarked : ℕ → List ℤ → Type 0
 AreMarked marks values = length values ≡ rank marks BLOCK
 
+-- this place is the lowest one that is marked
+abbrev pub IsLowest : ℕ → ℕ → Type 0
+IsLowest marks place = (bit_at marks place ≡ 1) × ((q : ℕ) → q < place → bit_at marks q ≡ 0)
+
 -- one of two values by a mark: the first where it isn't set
 abbrev pub by_mark : ℕ → Option ℤ → Option ℤ → Option ℤ
 by_mark zero unmarked marked = unmarked

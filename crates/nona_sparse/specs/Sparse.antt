@@ -55,3 +55,15 @@ changes cells written place = change_at cells place (written place)
 abbrev pub cells_under : (ℕ → Option ℤ) → ℕ → List ℤ → List ℤ
 cells_under over place [] = []
 cells_under over place (v ∷ cells) = unwrap_or (over place) v ∷ cells_under over (suc place) cells
+
+-- of what is written, what lies on the page with this index
+abbrev pub on_page : ℕ → (ℕ → Option ℤ) → ℕ → Option ℤ
+on_page index written place = if place / PAGE == index then written place else None
+
+-- what is written but for the page with this index
+abbrev pub off_page : ℕ → (ℕ → Option ℤ) → ℕ → Option ℤ
+off_page index written place = if place / PAGE == index then None else written place
+
+-- what is left of the values on the page with this index beside these cells, and all the others
+abbrev pub changes_on : ℕ → List ℤ → (ℕ → Option ℤ) → ℕ → Option ℤ
+changes_on index cells written place = if place / PAGE == index then change_at cells place (written place) else written place

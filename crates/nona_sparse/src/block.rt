@@ -2,7 +2,7 @@ ghost use Rattle.std.specs.Prelude.{◌≡◌, ◌≢◌, ◌==◌, ◌<◌, ◌
 ghost use Rattle.std.specs.Int.{w64, bit_at};
 ghost use Rattle.std.specs.List.{insert};
 ghost use Rattle.std.specs.Option.{unwrap_or};
-ghost use Rattle.nona_sparse.specs.Marks.{AreMarked, changed_at, block_of, rank, value_at};
+ghost use Rattle.nona_sparse.specs.Marks.{AreMarked, IsLowest, changed_at, block_of, rank, value_at};
 ghost use Rattle.nona_sparse.specs.Sparse.{at_page, of_block, only_at, cell, with_at, change_at};
 
 use std::alloc::{AllocError, Global};
@@ -80,6 +80,16 @@ fn without_mark(marks: u64, place: usize) -> u64
     ensures less { result < marks }
 {
     marks & !(1 << place)
+}
+
+// The marks without the lowest one, where there are any.
+fn without_lowest(marks: u64) -> u64
+    requires { 0 < marks }
+    ensures unmarked { (place : ℕ) → IsLowest marks place → bit_at result place ≡ 0 }
+    ensures others { (place : ℕ) → IsLowest marks place → (q : ℕ) → q < BLOCK → q ≢ place → bit_at result q ≡ bit_at marks q }
+    ensures less { result < marks }
+{
+    marks & (marks - 1)
 }
 
 // Whether a place lies behind all marked ones.
@@ -301,7 +311,7 @@ fn all_differ(marks: u64, values: &[i64], first: usize, cells: &[i64]) -> bool
         if let None = left_of(Some(value), cells, first + place) {
             return false;
         }
-        rest = without_mark(rest, place);
+        rest = without_lowest(rest);
     }
     true
 }
@@ -321,7 +331,7 @@ fn keep_left(marks: &mut u64, values: &mut Vec<i64>, first: usize, cells: &[i64]
     'places: while rest != 0 {
         let place = lowest(rest);
         forget_same(marks, values, place, cells, first + place);
-        rest = without_mark(rest, place);
+        rest = without_lowest(rest);
     }
 }
 
@@ -369,7 +379,7 @@ fn write_values(marks: u64, values: &[i64], index: usize, cells: &mut [i64])
         let place = lowest(rest);
         let value = value_behind(values, done);
         write_cell(Some(value), index * BLOCK + place, cells);
-        rest = without_mark(rest, place);
+        rest = without_lowest(rest);
     }
 }
 

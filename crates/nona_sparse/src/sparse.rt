@@ -1,6 +1,6 @@
 ghost use Rattle.std.specs.Prelude.{◌≡◌, ◌==◌, ◌<◌, ◌≤◌, [], ℕ, length, true, None, All, FitsSigned, OnOk, OnErr};
 ghost use Rattle.std.specs.Int.{w64};
-ghost use Rattle.nona_sparse.specs.Sparse.{at, with_at, changes, cells_under};
+ghost use Rattle.nona_sparse.specs.Sparse.{at, with_at, changes, cells_under, on_page, off_page, changes_on};
 
 use crate::page::{PAGE, PAGES, Page};
 use std::alloc::{AllocError, Global};
@@ -132,6 +132,38 @@ impl SparseArray {
     {
         for index in 0..self.pages.len() {
             self.pages[index].write_to(index, cells);
+        }
+    }
+
+    /// How many pages it has, those without values with them.
+    pub fn pages(&self) -> usize
+        ensures { result ≡ length self.now }
+    {
+        self.pages.len()
+    }
+
+    /// Forgets each value on the page with this index that the array's cell at its place has already. Nothing else changes. Takes no
+    /// memory, and a time in proportion to the page's blocks and its values.
+    pub fn keep_page(&mut self, index: usize, cells: &[i64])
+        ensures { at self.new ≡ changes_on index cells.now (at self.old) }
+    {
+        if index < self.pages.len() {
+            self.pages[index].keep_changes(index, cells);
+        }
+    }
+
+    /// Gives each of an array's cells the value at its place, where one is on the page with this index, and forgets these values.
+    /// Cells of 64 bits stay such. Takes no memory, gives back that of the page, and takes a time in proportion to the page's blocks
+    /// and its values.
+    pub fn move_page(&mut self, index: usize, cells: &mut [i64])
+        ensures left { at self.new ≡ off_page index (at self.old) }
+        ensures cells { cells.new ≡ cells_under (on_page index (at self.old)) 0 cells.old }
+        ensures numbers { All (FitsSigned w64) cells.old → All (FitsSigned w64) cells.new }
+    {
+        if index < self.pages.len() {
+            let alloc = *self.pages.allocator();
+            self.pages[index].write_to(index, cells);
+            self.pages[index] = Page::begin(alloc);
         }
     }
 }

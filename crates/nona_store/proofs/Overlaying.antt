@@ -56,7 +56,7 @@ reached a b n least = by (cases_lt n a) where
   by (inr above) = inl above
 
 -- a choice by a test
-chosen : {X : Type 0} (b c : Bool) (x y : X) → b ≡ c → (if b then x else y) ≡ (if c then x else y)
+pub chosen : {X : Type 0} (b c : Bool) (x y : X) → b ≡ c → (if b then x else y) ≡ (if c then x else y)
 chosen b c x y is = ap (λ t. if t then x else y) is
 
 -- one more sparse array is changed
@@ -79,7 +79,7 @@ next_array left was written id pages within each new = λ a. by a (cases_eq id a
       ∙ sym (chosen (nat_lt a (id + 1)) false _ _ (le-ltb a (id + 1) behind))
 
 -- a choice between two that are one
-same_either : {X : Type 0} (b : Bool) (x : X) → (if b then x else x) ≡ x
+pub same_either : {X : Type 0} (b : Bool) (x : X) → (if b then x else x) ≡ x
 same_either true x = refl
 same_either false x = refl
 
@@ -124,7 +124,7 @@ pick_false true x y h = cc
 pick_false false x y h = refl
 
 -- nothing under an empty overlay changes
-under_none : (k : ℕ) (cells : List ℤ) → cells_under (λ p. None) k cells ≡ cells
+pub under_none : (k : ℕ) (cells : List ℤ) → cells_under (λ p. None) k cells ≡ cells
 under_none k [] = refl
 under_none k (v ∷ cells) = ap (λ (rest : List ℤ). v ∷ rest) (under_none (suc k) cells)
 
@@ -150,7 +150,7 @@ under_length : (over : ℕ → Option ℤ) (k : ℕ) (cells : List ℤ) → leng
 under_length over k [] = refl
 under_length over k (v ∷ cells) = ap (λ n. suc n) (under_length over (suc k) cells)
 
-under_arrays : (over : ℕ → ℕ → Option ℤ) (k a : ℕ) (arrays : List (List ℤ))
+pub under_arrays : (over : ℕ → ℕ → Option ℤ) (k a : ℕ) (arrays : List (List ℤ))
     → slice_index_or (arrays_under over k arrays) a [] ≡ cells_under (over (k + a)) 0 (slice_index_or arrays a [])
 under_arrays over k a [] = refl
 under_arrays over k zero (cells ∷ arrays) = ap (λ n. cells_under (over n) 0 cells) (omega arith)

@@ -5,8 +5,8 @@ use Rattle.nona_tree.specs.Memory.{Memory}
 use Rattle.nona_tree.specs.Deeds.{Deed, reads, sets, folds, loads, stores, joins, prints}
 
 -- which cells of an array may be loaded and which saved, how many scalars may stand where there is a bound, whether numbers
--- may be printed, whether memory never runs out, the store beside which a bank writes, where it does so, and for how many
--- scalars room was reserved
+-- may be printed, whether memory never runs out, the store beside which a bank writes, where it does so, for how many
+-- scalars room was reserved, and the name of the loan of what it writes to, where that is lent
 pub record Limits : Type 0 where
   pub loads : ℕ → ℕ → Bool
   pub saves : ℕ → ℕ → Bool
@@ -15,6 +15,7 @@ pub record Limits : Type 0 where
   pub firm : Bool
   pub base : Option Memory
   pub reserved : ℕ
+  pub loan : Option ℕ
 
 -- so many scalars may stand
 abbrev pub HasRoom : Option ℕ → ℕ → Type 0
@@ -31,7 +32,7 @@ Allows l (reads id) = Unit {0}
 Allows l (sets id) = Unit {0}
 Allows l (folds f id) = Unit {0}
 
--- what a whole store allows: every cell, any number of scalars, and prints; its memory may run out, and no room is reserved
+-- what a whole store allows: every cell, any number of scalars, and prints; its memory may run out, no room is reserved, and nothing is lent
 abbrev pub all_allowed : Limits
 all_allowed = record {
   loads = λ array place. true;
@@ -41,4 +42,5 @@ all_allowed = record {
   firm = false;
   base = None;
   reserved = 0;
+  loan = None;
 }

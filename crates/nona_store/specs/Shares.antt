@@ -17,15 +17,10 @@ pub record ShareView : Type 0 where
 abbrev pub shared : Memory → ShareView → Memory
 shared m share = record { scalars = share.scalars; arrays = arrays_under (over_of share.written) 0 m.arrays; printed = m.printed ++ share.printed }
 
--- a store, and what a task has beside it
-pub record BankView : Type 0 where
-  pub store : Memory
-  pub share : ShareView
-
 -- every cell may be loaded and saved, any number of scalars may stand, and numbers may be printed; memory may run out; what is
--- written stands beside this store; and room is reserved for so many scalars
-abbrev pub all_beside : Memory → ℕ → Limits
-all_beside m reserved = record {
+-- written stands beside this store; room is reserved for so many scalars; and what is written to is lent by this loan
+abbrev pub all_beside : Memory → ℕ → ℕ → Limits
+all_beside m reserved loan = record {
   loads = λ array place. true;
   saves = λ array place. true;
   room = None;
@@ -33,4 +28,5 @@ all_beside m reserved = record {
   firm = false;
   base = Some m;
   reserved = reserved;
+  loan = Some loan;
 }

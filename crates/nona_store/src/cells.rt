@@ -1,5 +1,5 @@
 ghost use Rattle.std.specs.Prelude.{◌≡◌, ◌<◌, ◌≤◌, [], pos, length, replicate, slice_set, slice_index_or, All, IfOk};
-ghost use Rattle.nona_sparse.specs.Sparse.{at, cells_under};
+ghost use Rattle.nona_sparse.specs.Sparse.{at, cells_under, on_page, off_page};
 ghost use Rattle.nona_tree.specs.Faults.{cell_bound};
 ghost use Rattle.nona_tree.specs.Numbers.{IsI64};
 ghost use Rattle.nona_store.specs.Arrays.{AreKept};
@@ -90,6 +90,15 @@ impl Cells {
         ensures { self.new ≡ cells_under (at written.now) 0 self.old }
     {
         written.write_to(self.items.as_mut_slice());
+    }
+
+    /// Gives each cell the value that is written at its place, where one is on the page with this index, and forgets these values.
+    /// Takes no memory, and gives back that of the page.
+    pub fn move_page(&mut self, index: usize, written: &mut SparseArray)
+        ensures cells { self.new ≡ cells_under (on_page index (at written.old)) 0 self.old }
+        ensures left { at written.new ≡ off_page index (at written.old) }
+    {
+        written.move_page(index, self.items.as_mut_slice());
     }
 
     /// The values of the cells in order.

@@ -1,7 +1,7 @@
 ghost use Rattle.std.specs.Prelude.{◌≡◌, ◌<◌, ℕ, length, slice_index_or, [], OnOk, OnErr};
-ghost use Rattle.nona_sparse.specs.Sparse.{changes};
+ghost use Rattle.nona_sparse.specs.Sparse.{changes, cells_under, on_page};
 ghost use Rattle.nona_tree.specs.Faults.{cell_bound};
-ghost use Rattle.nona_store.specs.Overlays.{changes_of, over_of, unwritten, with_cell};
+ghost use Rattle.nona_store.specs.Overlays.{changes_of, changes_on_page, over_of, unwritten, with_cell, written_off};
 
 use crate::cells::Cells;
 use crate::store::Store;
@@ -107,5 +107,45 @@ impl Overlay {
         ensures { over_of self.new ≡ changes_of store.now (over_of self.old) }
     {
         keep_left(&mut self.arrays, store.arrays());
+    }
+
+    /// How many arrays there are up to the last one that has written cells, or had them.
+    pub fn count_arrays(&self) -> usize
+        ensures { result ≡ length self.now }
+    {
+        self.arrays.len()
+    }
+
+    /// How many pages the sparse array of the array with this id has, those without values with them.
+    pub fn count_pages(&self, array: usize) -> usize
+        ensures { result ≡ length (slice_index_or self.now array []) }
+    {
+        if array >= self.arrays.len() {
+            return 0;
+        }
+        self.arrays[array].pages()
+    }
+
+    /// Forgets each value, on the page of this array with this index, that the store's cell at its place has already. The array is one
+    /// of the store's. Nothing else changes. Takes no memory, and a time in proportion to the page's blocks and its values.
+    pub fn keep_page(&mut self, array: usize, index: usize, store: &Store)
+        requires { array < length store.now.arrays }
+        ensures { over_of self.new ≡ changes_on_page array index store.now (over_of self.old) }
+    {
+        if array < self.arrays.len() {
+            let written = &mut self.arrays[array];
+            written.keep_page(index, store.arrays()[array].as_slice());
+        }
+    }
+
+    /// Gives each of an array's cells its written value, where one is on the array's page with this index, and forgets these values.
+    /// Takes no memory, and gives back that of the page.
+    pub(crate) fn move_page(&mut self, array: usize, index: usize, cells: &mut Cells)
+        requires { array < length self.old }
+        ensures cells { cells.new ≡ cells_under (on_page index (over_of self.old array)) 0 cells.old }
+        ensures left { over_of self.new ≡ written_off array index (over_of self.old) }
+    {
+        let written = &mut self.arrays[array];
+        cells.move_page(index, written);
     }
 }

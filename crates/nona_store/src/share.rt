@@ -1,14 +1,13 @@
 ghost use Rattle.std.specs.Prelude.{◌≡◌, ◌<◌, ◌≤◌, ◌-◌, ◌++◌, ◌∷◌, [], pos, length, take, slice_index_or, slice_set, OnOk, OnErr};
 ghost use Rattle.std.specs.Prelude.{vec_capacity};
 ghost use Rattle.nona_tree.specs.Faults.{cell_bound};
-ghost use Rattle.nona_store.specs.Overlays.{changes_of, over_of, unwritten, with_cell};
+ghost use Rattle.nona_store.specs.Overlays.{changes_of, changes_on_page, over_of, under, unwritten, with_cell, written_off, written_on};
 
 use crate::banks::Bank;
 use crate::overlay::Overlay;
 use crate::store::Store;
 use std::alloc::{AllocError, Global};
 use std::marker::Model;
-use std::mem;
 
 /// A task's share of a store that several tasks compute on: scalars of its own, with room for so many at least, and the cells that
 /// it has written and the numbers that it has printed, which stand beside the store. Contracts see the four. The room never changes.
@@ -42,14 +41,6 @@ impl Share {
             overlay: Overlay::begin(alloc),
             printed: Vec::new(alloc),
         }
-    }
-
-    /// Moves the share out, and leaves an empty one. Takes constant time and no memory.
-    pub fn take(&mut self) -> Share
-        ensures { result ≡ self.old }
-    {
-        let alloc = *self.scalars.allocator();
-        mem::replace(self, Share::begin(alloc, Vec::new(alloc)))
     }
 
     /// The cells that were written.
@@ -153,48 +144,49 @@ impl Share {
     {
         self.overlay.keep_changes(store);
     }
+
+    /// Forgets each written value, on the page with this index of an array of the store, that the store's cell has already. Nothing
+    /// else changes. Takes no memory, and a time in proportion to the page's blocks and the values in them.
+    pub fn keep_page(&mut self, array: usize, index: usize, store: &Store)
+        requires { array < length store.now.arrays }
+        ensures scalars { self.new.scalars ≡ self.old.scalars }
+        ensures printed { self.new.printed ≡ self.old.printed }
+        ensures room { self.new.room ≡ self.old.room }
+        ensures written { over_of self.new.written ≡ changes_on_page array index store.now (over_of self.old.written) }
+    {
+        self.overlay.keep_page(array, index, store);
+    }
+
+    /// Moves the written values, on the page with this index of an array of the store, into the store. Nothing else changes. Takes no
+    /// memory, gives back that of the page, and takes a time in proportion to the page's blocks and the values in them.
+    pub fn apply_page(&mut self, array: usize, index: usize, store: &mut Store)
+        requires { array < length store.old.arrays }
+        ensures scalars { self.new.scalars ≡ self.old.scalars }
+        ensures printed { self.new.printed ≡ self.old.printed }
+        ensures room { self.new.room ≡ self.old.room }
+        ensures left { over_of self.new.written ≡ written_off array index (over_of self.old.written) }
+        ensures store { store.new ≡ under (written_on array index (over_of self.old.written)) store.old }
+    {
+        store.apply_page(array, index, &mut self.overlay);
+    }
 }
 
 /// A store as a task sees it: the task's own scalars, the store's cells under those that the task has written, and behind what the
 /// store has printed what the task has printed. Every cell may be loaded and saved, and numbers may be printed. Each call takes
-/// constant time, but where a save is the first one near its cell (`Overlay::put`). What is written goes to the share alone. It
-/// owns the share, which is moved in and out, so that the share is known after any calls.
+/// constant time, but where a save is the first one near its cell (`Overlay::put`). What is written goes to the share alone,
+/// which is lent to it. Its limits name the loan, so that the share is known after any calls.
 #[derive(Drop)]
 pub struct ShareBank<'a> {
-    store: &'a Store,
-    share: Share,
-}
-
-impl<'a> Model for ShareBank<'a> {
-    ghost use Rattle.nona_store.specs.Shares.{BankView};
-
-    ghost Value = { BankView };
-
-    ghost view = { λ b. record { store = b.store.now; share = b.share } };
-}
-
-impl<'a> ShareBank<'a> {
-    /// A task's share over a store. Takes constant time and no memory.
-    pub fn over(store: &'a Store, share: Share) -> ShareBank<'a>
-        ensures { result ≡ record { store = store.now; share = share } }
-    {
-        ShareBank { store, share }
-    }
-
-    /// Moves the share out. Takes constant time and no memory.
-    pub fn into_share(self) -> Share
-        ensures { result ≡ self.entry.share }
-    {
-        self.share
-    }
+    pub store: &'a Store,
+    pub share: &'a mut Share,
 }
 
 impl<'a> Bank for ShareBank<'a> {
     ghost use Rattle.nona_store.specs.Shares.{shared, all_beside};
 
-    ghost state = { λ b. shared b.store b.share };
+    ghost state = { λ b. shared b.store.now b.share.now };
 
-    ghost limits = { λ b. all_beside b.store b.share.room };
+    ghost limits = { λ b. all_beside b.store.now b.share.now.room b.share.ghost_name };
 
     fn scalar(&mut self, id: u32) -> i64 {
         self.share.scalar(id)

@@ -1,8 +1,8 @@
 ghost use Rattle.std.specs.Prelude.{◌≡◌, ◌<◌, ◌≤◌, ◌-◌, [], length, map, replicate, pos, All, OnOk, OnErr, IfOk};
 ghost use Rattle.nona_store.specs.Arrays.{with_array, AreSized, IsSized, AreFew};
-ghost use Rattle.nona_sparse.specs.Sparse.{at, cells_under};
+ghost use Rattle.nona_sparse.specs.Sparse.{at, cells_under, on_page};
 ghost use Rattle.nona_store.specs.Input.{number_bound};
-ghost use Rattle.nona_store.specs.Overlays.{over_of, under};
+ghost use Rattle.nona_store.specs.Overlays.{over_of, under, written_off, written_on};
 ghost use Rattle.nona_tree.specs.Faults.{cell_bound};
 ghost use Rattle.nona_tree.specs.Numbers.{IsI64, AreI64};
 ghost use Rattle.nona_tree.specs.Memory.{scalar_at, cells_of, cell_at, declare, assign, put_cell, print, cut_to};
@@ -248,6 +248,31 @@ impl Store {
         let many = written.len().min(self.arrays.len());
         'arrays: for array in 0..many {
             self.write_array(array, &written[array]);
+        }
+    }
+
+    // Moves the values that are written on a page into an array; both are there. Nothing else changes.
+    fn move_page(&mut self, array: usize, index: usize, overlay: &mut Overlay)
+        requires there { array < length self.old.arrays }
+        requires written { array < length overlay.old }
+        ensures store { self.new ≡ with_array array (cells_under (on_page index (over_of overlay.old array)) 0 (cells_of self.old array)) self.old }
+        ensures left { over_of overlay.new ≡ written_off array index (over_of overlay.old) }
+    {
+        let cells = &mut self.arrays[array];
+        overlay.move_page(array, index, cells);
+        cells.are_kept();
+    }
+
+    /// Gives each cell that an overlay has, on the page with this index of an array that is there, its value, and forgets these values.
+    /// Nothing else changes. Takes no memory, gives back that of the page, and takes a time in proportion to the page's blocks and the
+    /// values in them.
+    pub fn apply_page(&mut self, array: usize, index: usize, overlay: &mut Overlay)
+        requires { array < length self.old.arrays }
+        ensures store { self.new ≡ under (written_on array index (over_of overlay.old)) self.old }
+        ensures left { over_of overlay.new ≡ written_off array index (over_of overlay.old) }
+    {
+        if array < overlay.count_arrays() {
+            self.move_page(array, index, overlay);
         }
     }
 

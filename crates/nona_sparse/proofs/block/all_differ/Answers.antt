@@ -20,15 +20,15 @@ values-preserved c =
     let done = c.values.done in
     let p = c.lowest-place.result in
     let low = c.lowest-place.ensures in
-    let rest = c.without_mark-rest in
+    let rest = c.without_lowest-rest in
     let values = c.args.values.now in
     let value : Some (to_z w64 (of_z w64 c.value_behind-value.result)) ≡ value_at marks values p =
     ap Some (to_z-of_z w64 c.value_behind-value.result (record { sfits = c.value_behind-value.type_inv }) ∙ c.value_behind-value.ensures)
     ∙ next_value marks done c.values.rest p i.left low.there low.marked low.least values in
     let left : c.left_of.result ≡ change_at c.args.cells.now (c.args.first + p) (value_at marks values p) = c.left_of.ensures ∙ ap (change_at c.args.cells.now (c.args.first + p)) value in
     record {
-      left = next_behind marks done c.values.rest p i.left low.there low.marked low.least rest.result rest.ensures.unmarked rest.ensures.others;
-      differ = next_differs c.args.first p c.values.rest rest.result marks values c.args.cells.now rest.ensures.others i.differ
+      left = next_behind marks done c.values.rest p i.left low.there low.marked low.least rest.result (rest.ensures.unmarked p (c.lowest-place.ensures.marked, c.lowest-place.ensures.least)) (rest.ensures.others p (c.lowest-place.ensures.marked, c.lowest-place.ensures.least));
+      differ = next_differs c.args.first p c.values.rest rest.result marks values c.args.cells.now (rest.ensures.others p (c.lowest-place.ensures.marked, c.lowest-place.ensures.least)) i.differ
           (change_stays c.args.cells.now (c.args.first + p) (value_at marks values p) c.in_default.field-0 (sym left ∙ c.in_default.is));
     }
 
@@ -36,9 +36,6 @@ pub returns : goal.returns
 returns c =
     λ is q within. c.values.invariant.differ q within
     (none_left c.args.marks c.values.rest c.args.values.now c.values.done q c.requires.kept c.values.invariant.left c.values-test.false within)
-
-pub without_mark-rest-requires : goal.without_mark-rest-requires
-without_mark-rest-requires c = record { there = c.lowest-place.ensures.there; marked = c.lowest-place.ensures.marked }
 
 pub full_differs-requires-clause-full : goal.full_differs-requires-clause-full
 full_differs-requires-clause-full c = full_long c.args.marks c.args.values.now c.requires.kept c.if-marks-eq18446744073709551615.true

@@ -17,13 +17,13 @@ pub places-preserved : goal.places-preserved
 places-preserved c =
     let p = c.lowest-place.result in
     let i = c.places.invariant in
-    let rest = c.without_mark-rest in
+    let rest = c.without_lowest-rest in
     record {
       kept = c.forget_same.ensures.kept;
-      marked = next_marked p c.places.rest rest.result c.places.marks c.forget_same.new.marks rest.ensures.unmarked rest.ensures.others c.forget_same.ensures.marks i.marked;
+      marked = next_marked p c.places.rest rest.result c.places.marks c.forget_same.new.marks (rest.ensures.unmarked p (c.lowest-place.ensures.marked, c.lowest-place.ensures.least)) (rest.ensures.others p (c.lowest-place.ensures.marked, c.lowest-place.ensures.least)) c.forget_same.ensures.marks i.marked;
       left = next_left (λ q. change_at c.args.cells.now (c.args.first + q)) (at_page (block_of c.args.marks.now c.args.values.now.items))
           (at_page (block_of c.places.marks c.places.values.items)) (at_page (block_of c.forget_same.new.marks c.forget_same.new.values.items))
-          p c.places.rest rest.result c.lowest-place.ensures.there c.lowest-place.ensures.marked rest.ensures.unmarked rest.ensures.others i.left c.forget_same.ensures.left;
+          p c.places.rest rest.result c.lowest-place.ensures.there c.lowest-place.ensures.marked (rest.ensures.unmarked p (c.lowest-place.ensures.marked, c.lowest-place.ensures.least)) (rest.ensures.others p (c.lowest-place.ensures.marked, c.lowest-place.ensures.least)) i.left c.forget_same.ensures.left;
     }
 
 pub returns : goal.returns

@@ -29,7 +29,7 @@ values-preserved c =
     let done = c.values.done in
     let p = c.lowest-place.result in
     let low = c.lowest-place.ensures in
-    let rest = c.without_mark-rest in
+    let rest = c.without_lowest-rest in
     let values = c.args.values.now in
     let value : Some (to_z w64 (of_z w64 c.value_behind-value.result)) ≡ value_at marks values p =
     ap Some (to_z-of_z w64 c.value_behind-value.result (record { sfits = c.value_behind-value.type_inv }) ∙ c.value_behind-value.ensures)
@@ -37,12 +37,12 @@ values-preserved c =
     let page = block_of marks values in
     let own = value ∙ sym (at_within marks values p low.there) in
     record {
-      left = next_behind marks done c.values.rest p i.left low.there low.marked low.least rest.result rest.ensures.unmarked rest.ensures.others;
+      left = next_behind marks done c.values.rest p i.left low.there low.marked low.least rest.result (rest.ensures.unmarked p (c.lowest-place.ensures.marked, c.lowest-place.ensures.least)) (rest.ensures.others p (c.lowest-place.ensures.marked, c.lowest-place.ensures.least));
       long = c.write_cell.ensures.long ∙ i.long;
       cells = λ q within. c.write_cell.ensures.cells q (omega (arith, within, i.long))
           ∙ ap (λ o. unwrap_or (only_at (c.args.index * BLOCK + p) o q) (cell c.values.cells q)) own
           ∙ ap (unwrap_or (only_at (c.args.index * BLOCK + p) (at_page page p) q)) (i.cells q within)
-          ∙ next_written c.args.index p c.values.rest rest.result page low.there low.marked rest.ensures.unmarked rest.ensures.others q (cell c.args.cells.now q);
+          ∙ next_written c.args.index p c.values.rest rest.result page low.there low.marked (rest.ensures.unmarked p (c.lowest-place.ensures.marked, c.lowest-place.ensures.least)) (rest.ensures.others p (c.lowest-place.ensures.marked, c.lowest-place.ensures.least)) q (cell c.args.cells.now q);
       numbers = λ all. c.write_cell.ensures.numbers (i.numbers all);
     }
 

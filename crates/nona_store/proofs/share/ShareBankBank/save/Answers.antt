@@ -3,7 +3,7 @@ use Rattle.std.proofs.lemmas.Int.{to_z-of_z}
 use Rattle.std.proofs.lemmas.Result.{on_ok_weaker}
 use Rattle.nona_tree.specs.Memory.{Memory, cells_of, put_cell}
 use Rattle.nona_store.specs.Overlays.{over_of, with_cell, arrays_under}
-use Rattle.nona_store.specs.Shares.{ShareView, BankView, shared}
+use Rattle.nona_store.specs.Shares.{ShareView, shared}
 use Rattle.nona_store.proofs.Overlaying.{put_over_store, within_own, has_array}
 use Rattle.nona_store.proofs.share.ShareBankBank.save.Goals as goal
 
@@ -16,19 +16,19 @@ saved m new old a at v same put as_printed =
 
 pub put-requires : goal.put-requires
 put-requires c =
-    let m = c.self.inside.store.now in
+    let m = c.args.self.now.store.now in
     let a = c.args.array in
     let at = c.args.index in
     let within : at < length (cells_of m a) =
-    within_own m (over_of c.self.inside.share.written) a at
-    (subst (λ (b : BankView). at < length (cells_of (shared b.store b.share) a)) (sym c.self.view_is) c.requires.cell)
+    within_own m (over_of c.args.self.now.share.now.written) a at
+    c.requires.cell
     in
     omega (arith, within, c.is_kept.ensures.few a [] (has_array m.arrays a at within))
 
 pub returns-clause-state : goal.returns-clause-state
 returns-clause-state c =
-    let m = c.self.inside.store.now in
-    let old = c.self.inside.share in
+    let m = c.args.self.now.store.now in
+    let old = c.args.self.now.share.now in
     let new = c.put.new.self in
     let a = c.args.array in
     let at = c.args.index in
@@ -37,6 +37,5 @@ returns-clause-state c =
     let same : passed ≡ v = to_z-of_z w64 v c.ranges.value in
     on_ok_weaker c.put.result
     (λ (put : over_of new.written ≡ with_cell a at passed (over_of old.written)).
-    saved m new old a at v c.put.ensures.scalars (put ∙ ap (λ (z : ℤ). with_cell a at z (over_of old.written)) same) c.put.ensures.printed
-    ∙ ap (λ (b : BankView). put_cell a at v (shared b.store b.share)) c.self.view_is)
+    saved m new old a at v c.put.ensures.scalars (put ∙ ap (λ (z : ℤ). with_cell a at z (over_of old.written)) same) c.put.ensures.printed)
     c.put.ensures.ok
