@@ -25,7 +25,8 @@ pub fn statuses_tell()
     // 15 has its fault.
     ensures unwritten { OfEachCall TellsFailedWrite }
     // After 15 and 16 outcome and store are both told or neither, by what was written. Of `check` neither is told, and a front of its
-    // report was written; of `trial` both are, and a front of its summary was written, or neither, and nothing was.
+    // report was written; of `trial` both are, and a front of its summary was written, but where memory ran out before it, and nothing was
+    // written, or where the log is full.
     ensures front { OfEachCall TellsFront }
     // 17 comes only where a file is too long.
     ensures long { OfEachCall TellsLongFile }

@@ -44,7 +44,8 @@ pub struct Driven {
 }
 
 /// Runs a program over an input in the intervals that `morta` asks for and runs, and puts the numbers that it prints on the sink,
-/// one put for each line. The one error is that memory ran out before the run.
+/// one put for each line. A loop may take from 1 to 10^12 turns whenever it is entered. The one error is that memory ran out before
+/// the run, and the sink is then as it was; a run that stopped short says why in its answer.
 pub fn drive_program<M: Runner + Asker + Drop, K: Sink>(
     alloc: Global,
     program: &Checked,
@@ -82,7 +83,8 @@ pub fn drive_program<M: Runner + Asker + Drop, K: Sink>(
     Ok(Driven { run, log })
 }
 
-/// Reports why a run stopped short, with the log of its intervals, and writes the line of a full log.
+/// Reports why a run stopped short, with the log of its intervals, without outcome and store, and writes the line of a full log;
+/// where the sink failed or memory ran out it writes nothing.
 pub fn stop_short<K: Sink>(fault: DriveFault, log: Log, out: &mut K) -> Report
     ensures { EndsShort fault log (sent_since K.written K.faults out.old out.new) (told_of result) }
 {
@@ -125,7 +127,7 @@ fn replay_led<M: Runner + Asker + Drop, K: Sink>(
     }
 }
 
-/// What is asked of a replay that a script leads: what is asked of its run, and how many messages a link between two tasks holds,
+/// What is asked of a replay, whoever leads it: what is asked of its run, and how many messages a link between two tasks holds,
 /// from 1 to 64.
 #[derive(Clone, Copy)]
 pub struct AskedReplay {
@@ -133,7 +135,7 @@ pub struct AskedReplay {
     pub links: usize,
 }
 
-/// Replays a script over a program and an input.
+/// Replays a script over a program and an input: the script asks for the intervals, and its commands say in which order tasks step.
 pub fn replay_script<K: Sink>(
     alloc: Global,
     program: &Checked,
@@ -179,7 +181,7 @@ pub fn controlled(alloc: Global, workers: u8, links: usize) -> Both<Weave, Contr
     }
 }
 
-/// Replays a program over an input under a controller for at most so many workers.
+/// Replays a program over an input under a controller for at most so many workers, from 1 to 16.
 pub fn replay_controlled<K: Sink>(
     alloc: Global,
     program: &Checked,

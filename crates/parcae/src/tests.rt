@@ -53,8 +53,11 @@ fn call(
 const LINE: &str = "replay mixed input --script script --memory --log";
 
 /// What they write.
-const WHOLE: &str =
-    "12\n345\n345\nvar s = 0\narray a 2\na[1] = 1\nentry 1 region 1 low 0 high 2\nfrom 0 to 1 asked seq 1 ran seq 1 steps 4 waits 0 ticks 4 end limit\nfrom 1 to 2 asked seq 1 ran seq 1 steps 4 waits 0 ticks 4 end limit\nintervals 2\n";
+const WHOLE: &str = "12\n345\n345\nvar s = 0\narray a 2\na[1] = 1\nentry 1 region 1 low 0 high 2
+from 0 to 1 asked seq 1 ran seq 1 steps 4 waits 0 ticks 4 end limit
+from 1 to 2 asked seq 1 ran seq 1 steps 4 waits 0 ticks 4 end limit
+intervals 2
+";
 
 /// The report on the loops of the program above.
 const LOOPS: &str = "region 1 at 29 any no pipe yes\nstage 1 S 2\nstage 2 P 1\nok\n";
