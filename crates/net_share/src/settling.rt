@@ -4,7 +4,8 @@ ghost use Rattle.std.specs.Prelude.{◌≡◌, ◌<◌, length};
 ghost use Rattle.nona_tree.specs.Memory.{assign, scalar_at};
 ghost use Rattle.net_share.specs.Begins.{AreThere};
 ghost use Rattle.nona_store.specs.Overlays.{changes_on_page, written_off};
-ghost use Rattle.net_share.specs.Gathered.{AreChanged, AreChangedBehind, AreGatheredAlike, AreLeftBehind, gathered, joined_with, with_joined, with_page, with_written};
+ghost use Rattle.net_share.specs.Gathered.{AreChanged, AreChangedBehind, AreGatheredAlike, AreLeftBehind, gathered, joined_with};
+ghost use Rattle.net_share.specs.Gathered.{with_joined, with_page, with_written};
 ghost use Rattle.net_share.specs.Tasks.{share_of};
 
 use crate::task::Task;

@@ -98,6 +98,56 @@ fn a_sparse_array_has_what_was_last_put(rt: HostRuntime) -> Result<(), Fail> {
     Ok(())
 }
 
+/// How many places the next test puts values at: those of two blocks, and some of a third.
+const PLACES: usize = 600;
+
+/// Puts its number at every other place, from the last one down.
+fn put_down(written: &mut SparseArray) -> Result<(), AllocError> {
+    for step in 0..PLACES / 2 {
+        let place = PLACES - 2 - 2 * step;
+        written.put(place, place as i64)?;
+    }
+    Ok(())
+}
+
+/// Puts its number at each place between those, from the first one up.
+fn put_between(written: &mut SparseArray) -> Result<(), AllocError> {
+    for step in 0..PLACES / 2 {
+        let place = 2 * step + 1;
+        written.put(place, place as i64)?;
+    }
+    Ok(())
+}
+
+/// The first place whose cell has another number than its own.
+fn first_other(cells: &[i64]) -> Option<usize> {
+    for place in 0..cells.len().min(PLACES) {
+        if cells[place] != place as i64 {
+            return Some(place);
+        }
+    }
+    None
+}
+
+#[test]
+fn values_that_are_put_in_any_order(rt: HostRuntime) -> Result<(), Fail> {
+    let alloc = rt.alloc();
+    let mut written = SparseArray::begin(alloc);
+    put_down(&mut written)?;
+    put_between(&mut written)?;
+    let mut cells = vec![in alloc; -1i64; PLACES]?;
+    assert_eq!(rt; first_other(cells.as_slice()), Some(0));
+    written.write_to(cells.as_mut_slice());
+    assert_eq!(rt; first_other(cells.as_slice()), None);
+    if let Some(cell) = cells.get_mut(300) {
+        *cell = -1;
+    }
+    written.keep_changes(cells.as_slice());
+    let values = [written.get(299), written.get(300), written.get(301)];
+    assert_eq!(rt; values, [None, Some(300), None]);
+    Ok(())
+}
+
 #[test]
 fn what_is_left_of_an_overlay_is_applied(rt: HostRuntime) -> Result<(), Fail> {
     let alloc = rt.alloc();

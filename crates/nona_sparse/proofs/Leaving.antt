@@ -1,14 +1,13 @@
--- What is left of a page's values beside an array's cells, place by place.
-use Rattle.std.proofs.Common.{◌≡◌, ◌≢◌, ◌<◌, ◌≤◌, ◌+◌, ◌*◌, ◌/◌, ◌%◌, ◌==◌, ℕ, nat_lt, Bool, true, false, if◌then◌else◌, ℤ, List, length, Option, None, Some, refl, sym, ap, ◌∙◌, arith, ◌⊎◌, inl, inr}
-use Rattle.std.specs.Int.{bit_at}
+-- What is left of a block's values beside an array's cells, and what of a group is written, place by place.
+use Rattle.std.proofs.Common.{◌≡◌, ◌≢◌, ◌<◌, ◌≤◌, ◌+◌, ◌-◌, ◌*◌, ◌/◌, ◌%◌, ◌==◌, ℕ, suc, nat_lt, Bool, true, false, if◌then◌else◌, ℤ, List, length, Option, None, Some, refl, sym, ap, ◌∙◌, arith, ◌⊎◌, inl, inr}
 use Rattle.std.specs.Option.{unwrap_or}
 use Rattle.std.specs.Ordering.{int_eq}
 use Rattle.std.proofs.lemmas.Bool.{cases_eq, cases_lt, eq-eqb, ne_eqb}
-use Rattle.std.proofs.lemmas.Nat.Bits.{bit_at-zero}
+use Rattle.nona_sparse.specs.declared.group.TheConstants.{GROUP}
 use Rattle.nona_sparse.specs.declared.block.TheConstants.{BLOCK}
-use Rattle.nona_sparse.specs.Marks.{by_mark, changed_at, block_of, value_at}
+use Rattle.nona_sparse.specs.Marks.{DifferAt, by_mark, changed_at, value_at}
 use Rattle.nona_sparse.specs.Sparse.{at_page, cell, change_at, only_at}
-use Rattle.nona_sparse.proofs.Marking.{DifferAt, at_behind, at_within, chosen_elsewhere, chosen_here, mark_is, unmarked}
+use Rattle.nona_sparse.proofs.Marking.{at_behind, at_within, chosen_elsewhere, chosen_here, either, of_marks, unmarked}
 
 -- a choice between two that are one
 same_either : {X : Type 0} (b : Bool) (x : X) → (if b then x else x) ≡ x
@@ -29,103 +28,74 @@ pub change_stays : (cells : List ℤ) (at : ℕ) (written : Option ℤ) (w : ℤ
 change_stays cells at None w h = none_changed cells at
 change_stays cells at (Some v) w h = stays_if (nat_lt at (length cells)) (int_eq v (cell cells at)) v w h
 
--- a place without a value has nothing to leave
-pub untouched : (marks : ℕ) (values : List ℤ) (cells : List ℤ) (at q : ℕ) → q < BLOCK
-    → at_page (block_of marks values) q ≡ by_mark (bit_at marks q) (change_at cells at (at_page (block_of marks values) q)) (at_page (block_of marks values) q)
-untouched marks values cells at q within = by (mark_is marks q) where
-  own : Option ℤ
-  own = at_page (block_of marks values) q
+-- behind a block's places nothing is left of nothing
+pub none_done : (marks : ℕ → ℕ) (values cells : List ℤ) (first : ℕ) (q : ℕ) → BLOCK ≤ q → at_page (of_marks marks values) q ≡ change_at cells (first + q) (at_page (of_marks marks values) q)
+none_done marks values cells first q behind =
+    at_behind marks values q behind ∙ sym (none_changed cells (first + q)) ∙ ap (change_at cells (first + q)) (sym (at_behind marks values q behind))
 
-  by : (bit_at marks q ≡ 0) ⊎ (bit_at marks q ≡ 1) → own ≡ by_mark (bit_at marks q) (change_at cells at own) own
-  by (inl none) =
-      let nothing : own ≡ None = at_within marks values q within ∙ unmarked marks values q none in
-      nothing ∙ sym (none_changed cells at) ∙ ap (change_at cells at) (sym nothing) ∙ ap (λ b. by_mark b (change_at cells at own) own) (sym none)
-  by (inr marked) = ap (λ b. by_mark b (change_at cells at own) own) (sym marked)
+-- one more place is done, from the last one down
+module _ (left : ℕ → Option ℤ → Option ℤ) (was now next : ℕ → Option ℤ) (p done : ℕ) (last : p + (done + 1) ≡ BLOCK)
+    (own : (q : ℕ) → next q ≡ changed_at p (left p (now p)) now q) (before : (q : ℕ) → q + done < BLOCK → now q ≡ was q) where
+  pub next_same : (q : ℕ) → q + (done + 1) < BLOCK → next q ≡ was q
+  next_same q below =
+      own q ∙ chosen_elsewhere p q (left p (now p)) now (λ e. omega (arith, e, last, below)) ∙ before q (omega (arith, below))
 
--- one more place is done
-pub next_left : (left : ℕ → Option ℤ → Option ℤ) (was now next : ℕ → Option ℤ) (p old new : ℕ) → p < BLOCK → bit_at old p ≡ 1 → bit_at new p ≡ 0 → DifferAt p old new
-    → ((q : ℕ) → q < BLOCK → now q ≡ by_mark (bit_at old q) (left q (was q)) (was q)) → ((q : ℕ) → next q ≡ changed_at p (left p (now p)) now q)
-    → (q : ℕ) → q < BLOCK → next q ≡ by_mark (bit_at new q) (left q (was q)) (was q)
-next_left left was now next p old new there marked cleared others each done = λ q within. by q within (cases_eq p q) where
-  by : (q : ℕ) → q < BLOCK → (p ≡ q) ⊎ (p ≢ q) → next q ≡ by_mark (bit_at new q) (left q (was q)) (was q)
-  by q within (inl same) =
-      ap next (sym same) ∙ done p ∙ chosen_here p p (left p (now p)) now refl
-      ∙ ap (left p) (each p there ∙ ap (λ b. by_mark b (left p (was p)) (was p)) marked)
-      ∙ ap (λ b. by_mark b (left p (was p)) (was p)) (sym cleared) ∙ ap (λ n. by_mark (bit_at new n) (left n (was n)) (was n)) same
-  by q within (inr differs) =
-      done q ∙ chosen_elsewhere p q (left p (now p)) now differs ∙ each q within
-      ∙ ap (λ b. by_mark b (left q (was q)) (was q)) (sym (others q within (λ e. differs (sym e))))
-
--- the places that aren't done are marked
-pub next_marked : (p old new marks next : ℕ) → bit_at new p ≡ 0 → DifferAt p old new → DifferAt p marks next
-    → ((q : ℕ) → q < BLOCK → bit_at old q ≡ 1 → bit_at marks q ≡ 1) → (q : ℕ) → q < BLOCK → bit_at new q ≡ 1 → bit_at next q ≡ 1
-next_marked p old new marks next cleared others stay each = λ q within is. by q within is (cases_eq p q) where
-  by : (q : ℕ) → q < BLOCK → bit_at new q ≡ 1 → (p ≡ q) ⊎ (p ≢ q) → bit_at next q ≡ 1
-  by q within is (inl same) = absurd (omega (arith, cleared, is, ap (bit_at new) same))
-  by q within is (inr differs) =
-      stay q within (λ e. differs (sym e)) ∙ each q within (sym (others q within (λ e. differs (sym e))) ∙ is)
-
--- once all are done, what is left stands at each place
-pub all_done : (marks now : ℕ) (values kept : List ℤ) (cells : List ℤ) (first : ℕ)
-    → ((q : ℕ) → q < BLOCK → at_page (block_of now kept) q
-    ≡ by_mark (bit_at 0 q) (change_at cells (first + q) (at_page (block_of marks values) q)) (at_page (block_of marks values) q))
-    → (q : ℕ) → at_page (block_of now kept) q ≡ change_at cells (first + q) (at_page (block_of marks values) q)
-all_done marks now values kept cells first each = λ q. by q (cases_lt q BLOCK) where
-  by : (q : ℕ) → (q < BLOCK) ⊎ (BLOCK ≤ q) → at_page (block_of now kept) q ≡ change_at cells (first + q) (at_page (block_of marks values) q)
-  by q (inl within) =
-      each q within ∙ ap (λ b. by_mark b (change_at cells (first + q) (at_page (block_of marks values) q)) (at_page (block_of marks values) q)) (bit_at-zero q)
-  by q (inr behind) =
-      at_behind now kept q behind ∙ sym (none_changed cells (first + q)) ∙ ap (change_at cells (first + q)) (sym (at_behind marks values q behind))
+  pub next_done : ((q : ℕ) → BLOCK ≤ q + done → now q ≡ left q (was q)) → (q : ℕ) → BLOCK ≤ q + (done + 1) → next q ≡ left q (was q)
+  next_done behind = λ q above. by q above (cases_eq p q) where
+    by : (q : ℕ) → BLOCK ≤ q + (done + 1) → (p ≡ q) ⊎ (p ≢ q) → next q ≡ left q (was q)
+    by q above (inl same) =
+        own q ∙ chosen_here p q (left p (now p)) now same ∙ ap (left p) (before p (omega (arith, last))) ∙ ap (λ n. left n (was n)) same
+    by q above (inr differs) = own q ∙ chosen_elsewhere p q (left p (now p)) now differs ∙ behind q (omega (arith, above, last, differs))
 
 -- where each value is another one than the cell, all of them are left
-pub all_same : (marks : ℕ) (values cells : List ℤ) (first : ℕ)
+pub all_same : (marks : ℕ → ℕ) (values cells : List ℤ) (first : ℕ)
     → ((q : ℕ) → q < BLOCK → change_at cells (first + q) (value_at marks values q) ≡ value_at marks values q)
-    → (q : ℕ) → at_page (block_of marks values) q ≡ change_at cells (first + q) (at_page (block_of marks values) q)
+    → (q : ℕ) → at_page (of_marks marks values) q ≡ change_at cells (first + q) (at_page (of_marks marks values) q)
 all_same marks values cells first each = λ q. by q (cases_lt q BLOCK) where
-  by : (q : ℕ) → (q < BLOCK) ⊎ (BLOCK ≤ q) → at_page (block_of marks values) q ≡ change_at cells (first + q) (at_page (block_of marks values) q)
+  by : (q : ℕ) → (q < BLOCK) ⊎ (BLOCK ≤ q) → at_page (of_marks marks values) q ≡ change_at cells (first + q) (at_page (of_marks marks values) q)
   by q (inl within) =
       at_within marks values q within ∙ sym (each q within) ∙ ap (change_at cells (first + q)) (sym (at_within marks values q within))
-  by q (inr behind) =
-      at_behind marks values q behind ∙ sym (none_changed cells (first + q)) ∙ ap (change_at cells (first + q)) (sym (at_behind marks values q behind))
+  by q (inr behind) = none_done marks values cells first q behind
 
--- what of a page is written, but for the places that are marked here
-abbrev pub but_marked : ℕ → ℕ → List (Option ℤ) → ℕ → Option ℤ
-but_marked index rest page q = if q / BLOCK == index then by_mark (bit_at rest (q % BLOCK)) (at_page page (q % BLOCK)) None else None
+-- what of a group is written, but for the places that are marked here
+abbrev pub but_marked : ℕ → (ℕ → ℕ) → (ℕ → Option ℤ) → ℕ → Option ℤ
+but_marked index rest written q = if q / GROUP == index then by_mark (rest (q % GROUP)) (written (q % GROUP)) None else None
 
 -- before the first one nothing is
-pub none_written : (index marks : ℕ) (values : List ℤ) (q : ℕ) (x : ℤ) → unwrap_or (but_marked index marks (block_of marks values) q) x ≡ x
+pub none_written : (index : ℕ) (marks : ℕ → ℕ) (values : List ℤ) (q : ℕ) (x : ℤ) → unwrap_or (but_marked index marks (value_at marks values) q) x ≡ x
 none_written index marks values q x =
-    ap (λ (o : Option ℤ). unwrap_or (if q / BLOCK == index then o else None) x) (by (mark_is marks (q % BLOCK)))
-    ∙ ap (λ o. unwrap_or o x) (same_either (q / BLOCK == index) None)
+    ap (λ (o : Option ℤ). unwrap_or (if q / GROUP == index then o else None) x) (by (either marks (q % GROUP)))
+    ∙ ap (λ o. unwrap_or o x) (same_either (q / GROUP == index) None)
   where
     own : Option ℤ
-    own = at_page (block_of marks values) (q % BLOCK)
+    own = value_at marks values (q % GROUP)
 
-    by : (bit_at marks (q % BLOCK) ≡ 0) ⊎ (bit_at marks (q % BLOCK) ≡ 1) → by_mark (bit_at marks (q % BLOCK)) own None ≡ None
-    by (inl none) =
-        ap (λ b. by_mark b own None) none ∙ at_within marks values (q % BLOCK) (omega arith) ∙ unmarked marks values (q % BLOCK) none
-    by (inr marked) = ap (λ b. by_mark b own None) marked
+    by : (marks (q % GROUP) ≡ 0) ⊎ (0 < marks (q % GROUP)) → by_mark (marks (q % GROUP)) own None ≡ None
+    by (inl none) = ap (λ b. by_mark b own None) none ∙ unmarked marks values (q % GROUP) none
+    by (inr set) =
+        let is : marks (q % GROUP) ≡ suc (marks (q % GROUP) - 1) = omega (arith, set) in
+        ap (λ b. by_mark b own None) is
 
 -- one more place is written
-pub next_written : (index p old new : ℕ) (page : List (Option ℤ)) → p < BLOCK → bit_at old p ≡ 1 → bit_at new p ≡ 0 → DifferAt p old new
-    → (q : ℕ) (x : ℤ) → unwrap_or (only_at (index * BLOCK + p) (at_page page p) q) (unwrap_or (but_marked index old page q) x) ≡ unwrap_or (but_marked index new page q) x
-next_written index p old new page there marked cleared others = λ q x. by q x (cases_eq (q / BLOCK) index) (cases_eq p (q % BLOCK)) where
-  by : (q : ℕ) (x : ℤ) → (q / BLOCK ≡ index) ⊎ (q / BLOCK ≢ index) → (p ≡ q % BLOCK) ⊎ (p ≢ q % BLOCK)
-      → unwrap_or (only_at (index * BLOCK + p) (at_page page p) q) (unwrap_or (but_marked index old page q) x) ≡ unwrap_or (but_marked index new page q) x
+pub next_written : (index p : ℕ) (old new : ℕ → ℕ) (written : ℕ → Option ℤ) → p < GROUP → old p ≡ 1 → new p ≡ 0 → DifferAt GROUP p old new
+    → (q : ℕ) (x : ℤ) → unwrap_or (only_at (index * GROUP + p) (written p) q) (unwrap_or (but_marked index old written q) x) ≡ unwrap_or (but_marked index new written q) x
+next_written index p old new written there marked cleared others = λ q x. by q x (cases_eq (q / GROUP) index) (cases_eq p (q % GROUP)) where
+  by : (q : ℕ) (x : ℤ) → (q / GROUP ≡ index) ⊎ (q / GROUP ≢ index) → (p ≡ q % GROUP) ⊎ (p ≢ q % GROUP)
+      → unwrap_or (only_at (index * GROUP + p) (written p) q) (unwrap_or (but_marked index old written q) x) ≡ unwrap_or (but_marked index new written q) x
   by q x (inl is) (inl same) =
-      let here : index * BLOCK + p ≡ q = omega (arith, is, same) in
-      ap (λ (b : Bool). unwrap_or (if b then at_page page p else None) (unwrap_or (but_marked index old page q) x)) (eq-eqb (index * BLOCK + p) q here)
-      ∙ ap (λ (b : Bool). unwrap_or (at_page page p) (unwrap_or (if b then by_mark (bit_at old (q % BLOCK)) (at_page page (q % BLOCK)) None else None) x)) (eq-eqb (q / BLOCK) index is)
-      ∙ ap (λ b. unwrap_or (at_page page p) (unwrap_or (by_mark b (at_page page (q % BLOCK)) None) x)) (ap (bit_at old) (sym same) ∙ marked)
-      ∙ ap (λ n. unwrap_or (at_page page n) x) same
-      ∙ ap (λ b. unwrap_or (by_mark b (at_page page (q % BLOCK)) None) x) (sym (ap (bit_at new) (sym same) ∙ cleared))
-      ∙ ap (λ (b : Bool). unwrap_or (if b then by_mark (bit_at new (q % BLOCK)) (at_page page (q % BLOCK)) None else None) x) (sym (eq-eqb (q / BLOCK) index is))
+      let here : index * GROUP + p ≡ q = omega (arith, is, same) in
+      ap (λ (b : Bool). unwrap_or (if b then written p else None) (unwrap_or (but_marked index old written q) x)) (eq-eqb (index * GROUP + p) q here)
+      ∙ ap (λ (b : Bool). unwrap_or (written p) (unwrap_or (if b then by_mark (old (q % GROUP)) (written (q % GROUP)) None else None) x)) (eq-eqb (q / GROUP) index is)
+      ∙ ap (λ b. unwrap_or (written p) (unwrap_or (by_mark b (written (q % GROUP)) None) x)) (ap old (sym same) ∙ marked)
+      ∙ ap (λ n. unwrap_or (written n) x) same
+      ∙ ap (λ b. unwrap_or (by_mark b (written (q % GROUP)) None) x) (sym (ap new (sym same) ∙ cleared))
+      ∙ ap (λ (b : Bool). unwrap_or (if b then by_mark (new (q % GROUP)) (written (q % GROUP)) None else None) x) (sym (eq-eqb (q / GROUP) index is))
   by q x (inl is) (inr differs) =
-      ap (λ (b : Bool). unwrap_or (if b then at_page page p else None) (unwrap_or (but_marked index old page q) x))
-      (ne_eqb (index * BLOCK + p) q (λ e. differs (omega (arith, e, there))))
-      ∙ ap (λ b. unwrap_or (if q / BLOCK == index then by_mark b (at_page page (q % BLOCK)) None else None) x) (sym (others (q % BLOCK) (omega arith) (λ e. differs (sym e))))
+      ap (λ (b : Bool). unwrap_or (if b then written p else None) (unwrap_or (but_marked index old written q) x))
+      (ne_eqb (index * GROUP + p) q (λ e. differs (omega (arith, e, there))))
+      ∙ ap (λ b. unwrap_or (if q / GROUP == index then by_mark b (written (q % GROUP)) None else None) x) (sym (others (q % GROUP) (omega arith) (λ e. differs (sym e))))
   by q x (inr other) _ =
-      ap (λ (b : Bool). unwrap_or (if b then at_page page p else None) (unwrap_or (but_marked index old page q) x))
-      (ne_eqb (index * BLOCK + p) q (λ e. other (omega (arith, e, there))))
-      ∙ ap (λ (b : Bool). unwrap_or (if b then by_mark (bit_at old (q % BLOCK)) (at_page page (q % BLOCK)) None else None) x) (ne_eqb (q / BLOCK) index other)
-      ∙ ap (λ (b : Bool). unwrap_or (if b then by_mark (bit_at new (q % BLOCK)) (at_page page (q % BLOCK)) None else None) x) (sym (ne_eqb (q / BLOCK) index other))
+      ap (λ (b : Bool). unwrap_or (if b then written p else None) (unwrap_or (but_marked index old written q) x))
+      (ne_eqb (index * GROUP + p) q (λ e. other (omega (arith, e, there))))
+      ∙ ap (λ (b : Bool). unwrap_or (if b then by_mark (old (q % GROUP)) (written (q % GROUP)) None else None) x) (ne_eqb (q / GROUP) index other)
+      ∙ ap (λ (b : Bool). unwrap_or (if b then by_mark (new (q % GROUP)) (written (q % GROUP)) None else None) x) (sym (ne_eqb (q / GROUP) index other))

@@ -1,3 +1,4 @@
+pub mod Grouping
 pub mod Leaving
 mod Lowest
 pub mod Marking

@@ -1,5 +1,5 @@
 -- Marks without the lowest one.
-use Rattle.std.proofs.Common.{◌≡◌, ◌≢◌, ◌<◌, ◌≤◌, ◌-◌, ◌/◌, ◌%◌, ℕ, zero, suc, min, bit_and, refl, sym, ap, ◌∙◌, arith, ◌⊎◌, inl, inr}
+use Rattle.std.proofs.Common.{◌≡◌, ◌≢◌, ◌<◌, ◌≤◌, ◌-◌, ◌/◌, ◌%◌, ℕ, zero, suc, min, bit_and, sym, ap, ◌∙◌, arith, ◌⊎◌, inl, inr}
 use Rattle.std.specs.Int.{bit_at}
 use Rattle.std.proofs.lemmas.Bool.{cases_lt}
 use Rattle.std.proofs.lemmas.Nat.Bits.{bit_at_lowest, bit_at-suc, bit_at_and}
@@ -30,12 +30,12 @@ before_above n (suc p) (suc q) set below above =
     ∙ before_above (n / 2) p q (sym (bit_at-suc n p) ∙ set) (λ r less. sym (bit_at-suc n r) ∙ below (suc r) (omega (arith, less))) (omega (arith, above))
     ∙ sym (bit_at-suc n q)
 
-pub lowest_gone : (n p : ℕ) → IsLowest n p → bit_at (bit_and n (n - 1)) p ≡ 0
+pub lowest_gone : (n p : ℕ) → IsLowest (bit_at n) p → bit_at (bit_and n (n - 1)) p ≡ 0
 lowest_gone n p low =
     let gone = before_at n p low.0 low.1 in
     bit_at_and n (n - 1) p ∙ ap (min (bit_at n p)) gone ∙ omega arith
 
-pub others_stay : (n p q : ℕ) → IsLowest n p → q ≢ p → bit_at (bit_and n (n - 1)) q ≡ bit_at n q
+pub others_stay : (n p q : ℕ) → IsLowest (bit_at n) p → q ≢ p → bit_at (bit_and n (n - 1)) q ≡ bit_at n q
 others_stay n p q low differs = bit_at_and n (n - 1) q ∙ by (cases_lt q p) where
   by : (q < p) ⊎ (p ≤ q) → min (bit_at n q) (bit_at (n - 1) q) ≡ bit_at n q
   by (inl less) = let none = low.1 q less in omega (arith, none)

@@ -1,34 +1,37 @@
--- Ranks of places among marks, and pages whose marks and values change.
-use Rattle.std.proofs.Common.{◌≡◌, ◌/◌, ◌≢◌, ◌/◌, ◌<◌, ◌≤◌, ◌+◌, ◌-◌, ◌%◌, ◌^◌, ◌==◌, ℕ, zero, suc, Bool, true, false, if◌then◌else◌, ℤ, pos, List, [], ◌∷◌, ◌++◌, length, get_or, slice_set, Option, None, Some, refl, sym, ap, ◌∙◌, arith, ◌⊎◌, inl, inr}
+-- Ranks of places among marks, and blocks whose marks and values change.
+use Rattle.std.proofs.Common.{◌≡◌, ◌≢◌, ◌<◌, ◌≤◌, ◌+◌, ◌-◌, ◌%◌, ◌^◌, ◌==◌, ℕ, zero, suc, Bool, true, false, if◌then◌else◌, ℤ, pos, List, [], ◌∷◌, ◌++◌, length, get_or, slice_set, Option, None, Some, refl, sym, ap, ◌∙◌, arith, ◌⊎◌, inl, inr}
 use Rattle.std.specs.Int.{bit_at}
 use Rattle.std.specs.Int.RustNames.{count_ones}
 use Rattle.std.specs.List.{insert, remove}
 use Rattle.std.proofs.lemmas.Bool.{cases_eq, cases_lt, eq-eqb, eqb-true, ne_eqb, false≢true}
 use Rattle.std.proofs.lemmas.List.{get_or_append_left, get_or_at, get_or_past, get_or-set_same, get_or-set_other, length-append}
 use Rattle.std.proofs.lemmas.List.Edits.{length-insert, length-remove, get_or-insert_below, get_or-insert_at, get_or-insert_above, get_or-remove_below, get_or-remove_above}
-use Rattle.std.proofs.lemmas.Nat.{mod-pow-add, pow_pos, shr-shr, ones_cat, ones_le_self, zero_from_ones}
-use Rattle.std.proofs.lemmas.Nat.Bits.{bit_at-zero}
+use Rattle.std.proofs.lemmas.Nat.{mod-pow-add, pow_pos, ones_cat, ones_le_self, zero_from_ones}
 use native.Mathlib.Nat.{mod-lt}
 use Rattle.nona_sparse.specs.declared.block.TheConstants.{BLOCK}
-use Rattle.nona_sparse.specs.Marks.{AreMarked, changed_at, block_of, rank, up_to, value_at, where_marked}
+use Rattle.nona_sparse.specs.Marks.{AreMarked, DifferAt, changed_at, rank, up_to, value_at, where_marked}
 use Rattle.nona_sparse.specs.Sparse.{at_page, with_at}
 use Rattle.nona_sparse.proofs.Placing.{here, elsewhere}
 
 -- one more place has as many marked places below it, or one more
-pub rank_next : (marks p : ℕ) → rank marks (suc p) ≡ rank marks p + bit_at marks p
+pub rank_next : (marks : ℕ → ℕ) (p : ℕ) → rank marks (suc p) ≡ rank marks p + marks p
 unfolding rank
 rank_next marks p = refl
 
-pub rank_first : (marks : ℕ) → rank marks 0 ≡ 0
+pub rank_first : (marks : ℕ → ℕ) → rank marks 0 ≡ 0
 unfolding rank
 rank_first marks = refl
 
--- a mark is 0 or 1
-pub mark_is : (marks p : ℕ) → (bit_at marks p ≡ 0) ⊎ (bit_at marks p ≡ 1)
-mark_is marks p = by (cases_lt (bit_at marks p) 1) where
-  by : (bit_at marks p < 1) ⊎ (1 ≤ bit_at marks p) → (bit_at marks p ≡ 0) ⊎ (bit_at marks p ≡ 1)
-  by (inl below) = inl (omega (arith, below))
-  by (inr above) = inr (omega (arith, above))
+-- a place is marked or not
+pub either : (marks : ℕ → ℕ) (p : ℕ) → (marks p ≡ 0) ⊎ (0 < marks p)
+either marks p = by (cases_lt 0 (marks p)) where
+  by : (0 < marks p) ⊎ (marks p ≤ 0) → (marks p ≡ 0) ⊎ (0 < marks p)
+  by (inl set) = inr set
+  by (inr none) = inl (omega (arith, none))
+
+-- a bit is 0 or 1
+pub bit_few : (n p : ℕ) → bit_at n p < 2
+bit_few n p = omega arith
 
 -- how many bits are set below a place
 bit_counted : (b : ℕ) → b < 2 → count_ones b ≡ b
@@ -39,30 +42,35 @@ bit_counted (suc zero) h = by (cases_lt (count_ones 1) 1) where
   by (inr above) = omega (arith, above, ones_le_self 1)
 bit_counted (suc (suc b)) h = absurd (omega (arith, h))
 
-pub counted : (marks p : ℕ) → count_ones (marks % 2 ^ p) ≡ rank marks p
+pub counted : (marks p : ℕ) → count_ones (marks % 2 ^ p) ≡ rank (bit_at marks) p
 counted marks zero =
     let none : marks % 2 ^ 0 ≡ 0 = omega arith in
-    ap count_ones none ∙ omega (arith, ones_le_self 0) ∙ sym (rank_first marks)
+    ap count_ones none ∙ omega (arith, ones_le_self 0) ∙ sym (rank_first (bit_at marks))
 counted marks (suc p) =
     let next : suc p ≡ 1 + p = omega arith in
     ap (λ n. count_ones (marks % 2 ^ n)) next ∙ ap count_ones (mod-pow-add marks 1 p)
     ∙ ones_cat p (bit_at marks p) (marks % 2 ^ p) (mod-lt marks (pow_pos p))
-    ∙ (λ i. bit_counted (bit_at marks p) (omega arith) i + counted marks p i) ∙ omega (arith, rank_next marks p)
+    ∙ (λ i. bit_counted (bit_at marks p) (omega arith) i + counted marks p i) ∙ omega (arith, rank_next (bit_at marks) p)
+
+-- no more places are marked than there are
+pub rank_few : (marks : ℕ → ℕ) (p : ℕ) → ((q : ℕ) → marks q < 2) → rank marks p ≤ p
+rank_few marks zero few = omega (arith, rank_first marks)
+rank_few marks (suc p) few = omega (arith, rank_next marks p, rank_few marks p few, few p)
 
 -- a later place has no fewer marked places below it
-pub rank_up : (marks p k : ℕ) → rank marks p ≤ rank marks (p + k)
+pub rank_up : (marks : ℕ → ℕ) (p k : ℕ) → rank marks p ≤ rank marks (p + k)
 rank_up marks p zero = let none : p + 0 ≡ p = omega arith in omega (arith, ap (rank marks) none)
 rank_up marks p (suc k) =
     let next : p + suc k ≡ suc (p + k) = omega arith in
     omega (arith, rank_up marks p k, rank_next marks (p + k), ap (rank marks) next)
 
-pub rank_le : (marks p q : ℕ) → p ≤ q → rank marks p ≤ rank marks q
+pub rank_le : (marks : ℕ → ℕ) (p q : ℕ) → p ≤ q → rank marks p ≤ rank marks q
 rank_le marks p q below =
     let on : p + (q - p) ≡ q = omega (arith, below) in
     omega (arith, rank_up marks p (q - p), ap (rank marks) on)
 
 -- and more, where the earlier one is marked
-pub rank_over : (marks p q : ℕ) → p < q → bit_at marks p ≡ 1 → rank marks p < rank marks q
+pub rank_over : (marks : ℕ → ℕ) (p q : ℕ) → p < q → 0 < marks p → rank marks p < rank marks q
 rank_over marks p q below marked = omega (arith, rank_le marks (suc p) q (omega (arith, below)), rank_next marks p, marked)
 
 -- the list of what stands at each place
@@ -82,46 +90,39 @@ up_to_at (suc n) written q within = by (up_to_at n written q) (cases_lt q n) whe
       let is : q ≡ n = omega (arith, within, above) in
       get_or_at (up_to n written) (written n) [] None q (up_to_length n written ∙ sym is) ∙ ap written (sym is)
 
--- what stands at a place of a page
-pub at_within : (marks : ℕ) (values : List ℤ) (q : ℕ) → q < BLOCK → at_page (block_of marks values) q ≡ value_at marks values q
+-- what stands at each place of a block with these marks
+abbrev pub of_marks : (ℕ → ℕ) → List ℤ → List (Option ℤ)
+of_marks marks values = up_to BLOCK (value_at marks values)
+
+pub at_within : (marks : ℕ → ℕ) (values : List ℤ) (q : ℕ) → q < BLOCK → at_page (of_marks marks values) q ≡ value_at marks values q
 at_within marks values q within = up_to_at BLOCK (value_at marks values) q within
 
 -- behind its places nothing does
-pub at_behind : (marks : ℕ) (values : List ℤ) (q : ℕ) → BLOCK ≤ q → at_page (block_of marks values) q ≡ None
-at_behind marks values q behind = get_or_past (block_of marks values) q None (omega (arith, behind, up_to_length BLOCK (value_at marks values)))
+pub at_behind : (marks : ℕ → ℕ) (values : List ℤ) (q : ℕ) → BLOCK ≤ q → at_page (of_marks marks values) q ≡ None
+at_behind marks values q behind = get_or_past (of_marks marks values) q None (omega (arith, behind, up_to_length BLOCK (value_at marks values)))
 
 -- nor at a place that isn't marked
-pub unmarked : (marks : ℕ) (values : List ℤ) (q : ℕ) → bit_at marks q ≡ 0 → value_at marks values q ≡ None
+pub unmarked : (marks : ℕ → ℕ) (values : List ℤ) (q : ℕ) → marks q ≡ 0 → value_at marks values q ≡ None
 unmarked marks values q is = ap (λ b. where_marked b (get_or values (rank marks q) (pos 0))) is
 
 -- the value of a marked place
-pub marked_value : (marks : ℕ) (values : List ℤ) (q : ℕ) → bit_at marks q ≡ 1 → value_at marks values q ≡ Some (get_or values (rank marks q) (pos 0))
-marked_value marks values q is = ap (λ b. where_marked b (get_or values (rank marks q) (pos 0))) is
+pub marked_value : (marks : ℕ → ℕ) (values : List ℤ) (q : ℕ) → 0 < marks q → value_at marks values q ≡ Some (get_or values (rank marks q) (pos 0))
+marked_value marks values q set =
+    let is : marks q ≡ suc (marks q - 1) = omega (arith, set) in
+    ap (λ b. where_marked b (get_or values (rank marks q) (pos 0))) is
 
-pub none_marked : (values : List ℤ) (q : ℕ) → at_page (block_of 0 values) q ≡ None
-none_marked values q = by (cases_lt q BLOCK) where
-  by : (q < BLOCK) ⊎ (BLOCK ≤ q) → at_page (block_of 0 values) q ≡ None
-  by (inl within) = at_within 0 values q within ∙ unmarked 0 values q (bit_at-zero q)
-  by (inr behind) = at_behind 0 values q behind
+-- where no place is marked, nothing stands anywhere
+pub none_marked : (marks : ℕ → ℕ) (values : List ℤ) → ((q : ℕ) → marks q ≡ 0) → (q : ℕ) → at_page (of_marks marks values) q ≡ None
+none_marked marks values none = λ q. by q (cases_lt q BLOCK) where
+  by : (q : ℕ) → (q < BLOCK) ⊎ (BLOCK ≤ q) → at_page (of_marks marks values) q ≡ None
+  by q (inl within) = at_within marks values q within ∙ unmarked marks values q (none q)
+  by q (inr behind) = at_behind marks values q behind
 
-pub none_ranked : (p : ℕ) → rank 0 p ≡ 0
-none_ranked zero = rank_first 0
-none_ranked (suc p) = omega (arith, rank_next 0 p, none_ranked p, bit_at-zero p)
+pub none_ranked : (marks : ℕ → ℕ) (p : ℕ) → ((q : ℕ) → marks q ≡ 0) → rank marks p ≡ 0
+none_ranked marks zero none = rank_first marks
+none_ranked marks (suc p) none = omega (arith, rank_next marks p, none_ranked marks p none, none p)
 
--- a number that has one bit less than another one, which is no less, is less
-pub less_by : (new old p : ℕ) → new ≤ old → bit_at new p ≡ 0 → bit_at old p ≡ 1 → new < old
-less_by new old p most none marked = by (cases_lt new old) where
-  by : (new < old) ⊎ (old ≤ new) → new < old
-  by (inl below) = below
-  by (inr above) =
-      let same : new ≡ old = omega (arith, most, above) in
-      absurd (omega (arith, none, marked, ap (λ n. bit_at n p) same))
-
--- marks that differ at one place
-abbrev pub DifferAt : ℕ → ℕ → ℕ → Type 0
-DifferAt p old new = (q : ℕ) → q < BLOCK → q ≢ p → bit_at new q ≡ bit_at old q
-
-module _ (p old new : ℕ) (there : p < BLOCK) (others : DifferAt p old new) where
+module _ (p : ℕ) (old new : ℕ → ℕ) (there : p < BLOCK) (others : DifferAt BLOCK p old new) where
   -- up to there the same places are marked
   pub rank_before : (q : ℕ) → q ≤ p → rank new q ≡ rank old q
   rank_before zero below = rank_first new ∙ sym (rank_first old)
@@ -129,7 +130,7 @@ module _ (p old new : ℕ) (there : p < BLOCK) (others : DifferAt p old new) whe
       omega (arith, rank_next new q, rank_next old q, rank_before q (omega (arith, below)), others q (omega (arith, below, there)) (λ e. omega (arith, e, below)))
 
   -- and from there on one more, where the place is marked that wasn't
-  pub rank_behind : (k : ℕ) → bit_at old p ≡ 0 → bit_at new p ≡ 1 → suc (p + k) ≤ BLOCK → rank new (suc (p + k)) ≡ rank old (suc (p + k)) + 1
+  pub rank_behind : (k : ℕ) → old p ≡ 0 → new p ≡ 1 → suc (p + k) ≤ BLOCK → rank new (suc (p + k)) ≡ rank old (suc (p + k)) + 1
   rank_behind zero was is within =
       let first : p + 0 ≡ p = omega arith in
       ap (λ n. rank new (suc n)) first ∙ omega (arith, rank_next new p, rank_next old p, was, is, rank_before p (omega arith))
@@ -140,42 +141,42 @@ module _ (p old new : ℕ) (there : p < BLOCK) (others : DifferAt p old new) whe
       ∙ omega (arith, rank_next new (suc (p + k)), rank_next old (suc (p + k)), rank_behind k was is (omega (arith, within)), others (suc (p + k)) (omega (arith, within)) (λ e. omega (arith, e)))
       ∙ ap (λ n. rank old (suc n) + 1) (sym next)
 
-  pub rank_after : (q : ℕ) → bit_at old p ≡ 0 → bit_at new p ≡ 1 → p < q → q ≤ BLOCK → rank new q ≡ rank old q + 1
+  pub rank_after : (q : ℕ) → old p ≡ 0 → new p ≡ 1 → p < q → q ≤ BLOCK → rank new q ≡ rank old q + 1
   rank_after q was is above within =
       let on : q ≡ suc (p + (q - suc p)) = omega (arith, above) in
       ap (rank new) on ∙ rank_behind (q - suc p) was is (omega (arith, on, within)) ∙ ap (λ n. rank old n + 1) (sym on)
 
 -- a value that is put at a marked place
-pub value_changed : (marks : ℕ) (values : List ℤ) (p : ℕ) (v : ℤ) → AreMarked marks values → p < BLOCK → bit_at marks p ≡ 1
-    → at_page (block_of marks (slice_set values (rank marks p) v)) ≡ with_at p v (at_page (block_of marks values))
-value_changed marks values p v kept there is = λ i q. by q (cases_eq p q) (cases_lt q BLOCK) (mark_is marks q) i where
+pub value_changed : (marks : ℕ → ℕ) (values : List ℤ) (p : ℕ) (v : ℤ) → AreMarked BLOCK marks values → p < BLOCK → 0 < marks p
+    → at_page (of_marks marks (slice_set values (rank marks p) v)) ≡ with_at p v (at_page (of_marks marks values))
+value_changed marks values p v kept there is = λ i q. by q (cases_eq p q) (cases_lt q BLOCK) (either marks q) i where
   new : List ℤ
   new = slice_set values (rank marks p) v
 
-  by : (q : ℕ) → (p ≡ q) ⊎ (p ≢ q) → (q < BLOCK) ⊎ (BLOCK ≤ q) → (bit_at marks q ≡ 0) ⊎ (bit_at marks q ≡ 1)
-      → at_page (block_of marks new) q ≡ with_at p v (at_page (block_of marks values)) q
+  by : (q : ℕ) → (p ≡ q) ⊎ (p ≢ q) → (q < BLOCK) ⊎ (BLOCK ≤ q) → (marks q ≡ 0) ⊎ (0 < marks q)
+      → at_page (of_marks marks new) q ≡ with_at p v (at_page (of_marks marks values)) q
   by q (inl same) _ _ =
-      ap (at_page (block_of marks new)) (sym same) ∙ at_within marks new p there ∙ marked_value marks new p is
+      ap (at_page (of_marks marks new)) (sym same) ∙ at_within marks new p there ∙ marked_value marks new p is
       ∙ ap Some (get_or-set_same values (rank marks p) v (pos 0) (omega (arith, kept, rank_over marks p BLOCK there is)))
-      ∙ sym (here p v (at_page (block_of marks values)) q same)
+      ∙ sym (here p v (at_page (of_marks marks values)) q same)
   by q (inr differs) (inr behind) _ =
-      at_behind marks new q behind ∙ sym (at_behind marks values q behind) ∙ sym (elsewhere p v (at_page (block_of marks values)) q differs)
+      at_behind marks new q behind ∙ sym (at_behind marks values q behind) ∙ sym (elsewhere p v (at_page (of_marks marks values)) q differs)
   by q (inr differs) (inl within) (inl none) =
       at_within marks new q within ∙ unmarked marks new q none ∙ sym (unmarked marks values q none) ∙ sym (at_within marks values q within)
-      ∙ sym (elsewhere p v (at_page (block_of marks values)) q differs)
+      ∙ sym (elsewhere p v (at_page (of_marks marks values)) q differs)
   by q (inr differs) (inl within) (inr marked) =
       at_within marks new q within
-      ∙ ap (where_marked (bit_at marks q)) (get_or-set_other values (rank marks p) (rank marks q) v (pos 0) (apart (cases_lt p q)))
-      ∙ sym (at_within marks values q within) ∙ sym (elsewhere p v (at_page (block_of marks values)) q differs)
+      ∙ ap (where_marked (marks q)) (get_or-set_other values (rank marks p) (rank marks q) v (pos 0) (apart (cases_lt p q)))
+      ∙ sym (at_within marks values q within) ∙ sym (elsewhere p v (at_page (of_marks marks values)) q differs)
     where
       apart : (p < q) ⊎ (q ≤ p) → rank marks q ≢ rank marks p
       apart (inl above) e = omega (arith, rank_over marks p q above is, e)
       apart (inr below) e = omega (arith, rank_over marks q p (omega (arith, below, differs)) marked, e)
 
 -- a value that is put at a place that wasn't marked
-pub value_added : (old new : ℕ) (values : List ℤ) (p : ℕ) (v : ℤ) → AreMarked old values → p < BLOCK → DifferAt p old new → bit_at old p ≡ 0 → bit_at new p ≡ 1
-    → at_page (block_of new (insert values (rank old p) v)) ≡ with_at p v (at_page (block_of old values))
-value_added old new values p v kept there others was is = λ i q. by q (cases_eq p q) (cases_lt q BLOCK) (cases_lt q p) (mark_is old q) i where
+pub value_added : (old new : ℕ → ℕ) (values : List ℤ) (p : ℕ) (v : ℤ) → AreMarked BLOCK old values → p < BLOCK → DifferAt BLOCK p old new → old p ≡ 0 → new p ≡ 1
+    → at_page (of_marks new (insert values (rank old p) v)) ≡ with_at p v (at_page (of_marks old values))
+value_added old new values p v kept there others was is = λ i q. by q (cases_eq p q) (cases_lt q BLOCK) (cases_lt q p) (either old q) i where
   r : ℕ
   r = rank old p
 
@@ -185,31 +186,31 @@ value_added old new values p v kept there others was is = λ i q. by q (cases_eq
   fits : r ≤ length values
   fits = omega (arith, kept, rank_le old p BLOCK (omega (arith, there)))
 
-  by : (q : ℕ) → (p ≡ q) ⊎ (p ≢ q) → (q < BLOCK) ⊎ (BLOCK ≤ q) → (q < p) ⊎ (p ≤ q) → (bit_at old q ≡ 0) ⊎ (bit_at old q ≡ 1)
-      → at_page (block_of new added) q ≡ with_at p v (at_page (block_of old values)) q
+  by : (q : ℕ) → (p ≡ q) ⊎ (p ≢ q) → (q < BLOCK) ⊎ (BLOCK ≤ q) → (q < p) ⊎ (p ≤ q) → (old q ≡ 0) ⊎ (0 < old q)
+      → at_page (of_marks new added) q ≡ with_at p v (at_page (of_marks old values)) q
   by q (inl same) _ _ _ =
-      ap (at_page (block_of new added)) (sym same) ∙ at_within new added p there ∙ marked_value new added p is
+      ap (at_page (of_marks new added)) (sym same) ∙ at_within new added p there ∙ marked_value new added p (omega (arith, is))
       ∙ ap (λ n. Some (get_or added n (pos 0))) (rank_before p old new there others p (omega arith))
-      ∙ ap Some (get_or-insert_at values r v (pos 0) fits) ∙ sym (here p v (at_page (block_of old values)) q same)
+      ∙ ap Some (get_or-insert_at values r v (pos 0) fits) ∙ sym (here p v (at_page (of_marks old values)) q same)
   by q (inr differs) (inr behind) _ _ =
-      at_behind new added q behind ∙ sym (at_behind old values q behind) ∙ sym (elsewhere p v (at_page (block_of old values)) q differs)
+      at_behind new added q behind ∙ sym (at_behind old values q behind) ∙ sym (elsewhere p v (at_page (of_marks old values)) q differs)
   by q (inr differs) (inl within) _ (inl none) =
       at_within new added q within ∙ unmarked new added q (others q within (λ e. differs (sym e)) ∙ none) ∙ sym (unmarked old values q none)
-      ∙ sym (at_within old values q within) ∙ sym (elsewhere p v (at_page (block_of old values)) q differs)
+      ∙ sym (at_within old values q within) ∙ sym (elsewhere p v (at_page (of_marks old values)) q differs)
   by q (inr differs) (inl within) (inl below) (inr marked) =
       at_within new added q within ∙ ap (λ b. where_marked b (get_or added (rank new q) (pos 0))) (others q within (λ e. differs (sym e)))
-      ∙ ap (λ n. where_marked (bit_at old q) (get_or added n (pos 0))) (rank_before p old new there others q (omega (arith, below)))
-      ∙ ap (where_marked (bit_at old q)) (get_or-insert_below values r v (pos 0) (rank old q) (rank_over old q p below marked) fits)
-      ∙ sym (at_within old values q within) ∙ sym (elsewhere p v (at_page (block_of old values)) q differs)
+      ∙ ap (λ n. where_marked (old q) (get_or added n (pos 0))) (rank_before p old new there others q (omega (arith, below)))
+      ∙ ap (where_marked (old q)) (get_or-insert_below values r v (pos 0) (rank old q) (rank_over old q p below marked) fits)
+      ∙ sym (at_within old values q within) ∙ sym (elsewhere p v (at_page (of_marks old values)) q differs)
   by q (inr differs) (inl within) (inr above) (inr marked) =
       at_within new added q within ∙ ap (λ b. where_marked b (get_or added (rank new q) (pos 0))) (others q within (λ e. differs (sym e)))
-      ∙ ap (λ n. where_marked (bit_at old q) (get_or added n (pos 0))) (rank_after p old new there others q was is (omega (arith, above, differs)) (omega (arith, within)))
-      ∙ ap (where_marked (bit_at old q)) (get_or-insert_above values r v (pos 0) (rank old q) (rank_le old p q above) fits)
-      ∙ sym (at_within old values q within) ∙ sym (elsewhere p v (at_page (block_of old values)) q differs)
+      ∙ ap (λ n. where_marked (old q) (get_or added n (pos 0))) (rank_after p old new there others q was is (omega (arith, above, differs)) (omega (arith, within)))
+      ∙ ap (where_marked (old q)) (get_or-insert_above values r v (pos 0) (rank old q) (rank_le old p q above) fits)
+      ∙ sym (at_within old values q within) ∙ sym (elsewhere p v (at_page (of_marks old values)) q differs)
 
 -- as many values as marks stand then
-pub added_kept : (old new : ℕ) (values : List ℤ) (p : ℕ) (v : ℤ) → AreMarked old values → p < BLOCK → DifferAt p old new → bit_at old p ≡ 0 → bit_at new p ≡ 1
-    → AreMarked new (insert values (rank old p) v)
+pub added_kept : (old new : ℕ → ℕ) (values : List ℤ) (p : ℕ) (v : ℤ) → AreMarked BLOCK old values → p < BLOCK → DifferAt BLOCK p old new → old p ≡ 0 → new p ≡ 1
+    → AreMarked BLOCK new (insert values (rank old p) v)
 added_kept old new values p v kept there others was is =
     length-insert values (rank old p) v (omega (arith, kept, rank_le old p BLOCK (omega (arith, there)))) ∙ ap (λ n. n + 1) kept
     ∙ sym (rank_after p old new there others BLOCK was is there (omega arith))
@@ -222,9 +223,9 @@ pub chosen_elsewhere : (p q : ℕ) (value : Option ℤ) (written : ℕ → Optio
 chosen_elsewhere p q value written differs = ap (λ (b : Bool). if b then value else written q) (ne_eqb p q differs)
 
 -- a value that is forgotten
-pub value_forgotten : (old new : ℕ) (values : List ℤ) (p : ℕ) → AreMarked old values → p < BLOCK → DifferAt p old new → bit_at old p ≡ 1 → bit_at new p ≡ 0
-    → (q : ℕ) → at_page (block_of new (remove values (rank old p))) q ≡ changed_at p None (at_page (block_of old values)) q
-value_forgotten old new values p kept there others was is = λ q. by q (cases_eq p q) (cases_lt q BLOCK) (cases_lt q p) (mark_is old q) where
+pub value_forgotten : (old new : ℕ → ℕ) (values : List ℤ) (p : ℕ) → AreMarked BLOCK old values → p < BLOCK → DifferAt BLOCK p old new → old p ≡ 1 → new p ≡ 0
+    → (q : ℕ) → at_page (of_marks new (remove values (rank old p))) q ≡ changed_at p None (at_page (of_marks old values)) q
+value_forgotten old new values p kept there others was is = λ q. by q (cases_eq p q) (cases_lt q BLOCK) (cases_lt q p) (either old q) where
   r : ℕ
   r = rank old p
 
@@ -232,40 +233,40 @@ value_forgotten old new values p kept there others was is = λ q. by q (cases_eq
   left = remove values r
 
   fits : r < length values
-  fits = omega (arith, kept, rank_over old p BLOCK there was)
+  fits = omega (arith, kept, rank_over old p BLOCK there (omega (arith, was)))
 
-  back : DifferAt p new old
+  back : DifferAt BLOCK p new old
   back q within differs = sym (others q within differs)
 
-  by : (q : ℕ) → (p ≡ q) ⊎ (p ≢ q) → (q < BLOCK) ⊎ (BLOCK ≤ q) → (q < p) ⊎ (p ≤ q) → (bit_at old q ≡ 0) ⊎ (bit_at old q ≡ 1)
-      → at_page (block_of new left) q ≡ changed_at p None (at_page (block_of old values)) q
+  by : (q : ℕ) → (p ≡ q) ⊎ (p ≢ q) → (q < BLOCK) ⊎ (BLOCK ≤ q) → (q < p) ⊎ (p ≤ q) → (old q ≡ 0) ⊎ (0 < old q)
+      → at_page (of_marks new left) q ≡ changed_at p None (at_page (of_marks old values)) q
   by q (inl same) _ _ _ =
-      ap (at_page (block_of new left)) (sym same) ∙ at_within new left p there ∙ unmarked new left p is
-      ∙ sym (chosen_here p q None (at_page (block_of old values)) same)
+      ap (at_page (of_marks new left)) (sym same) ∙ at_within new left p there ∙ unmarked new left p is
+      ∙ sym (chosen_here p q None (at_page (of_marks old values)) same)
   by q (inr differs) (inr behind) _ _ =
-      at_behind new left q behind ∙ sym (at_behind old values q behind) ∙ sym (chosen_elsewhere p q None (at_page (block_of old values)) differs)
+      at_behind new left q behind ∙ sym (at_behind old values q behind) ∙ sym (chosen_elsewhere p q None (at_page (of_marks old values)) differs)
   by q (inr differs) (inl within) _ (inl none) =
       at_within new left q within ∙ unmarked new left q (others q within (λ e. differs (sym e)) ∙ none) ∙ sym (unmarked old values q none)
-      ∙ sym (at_within old values q within) ∙ sym (chosen_elsewhere p q None (at_page (block_of old values)) differs)
+      ∙ sym (at_within old values q within) ∙ sym (chosen_elsewhere p q None (at_page (of_marks old values)) differs)
   by q (inr differs) (inl within) (inl below) (inr marked) =
       at_within new left q within ∙ ap (λ b. where_marked b (get_or left (rank new q) (pos 0))) (others q within (λ e. differs (sym e)))
-      ∙ ap (λ n. where_marked (bit_at old q) (get_or left n (pos 0))) (rank_before p old new there others q (omega (arith, below)))
-      ∙ ap (where_marked (bit_at old q)) (get_or-remove_below values r (pos 0) (rank old q) (rank_over old q p below marked) fits)
-      ∙ sym (at_within old values q within) ∙ sym (chosen_elsewhere p q None (at_page (block_of old values)) differs)
+      ∙ ap (λ n. where_marked (old q) (get_or left n (pos 0))) (rank_before p old new there others q (omega (arith, below)))
+      ∙ ap (where_marked (old q)) (get_or-remove_below values r (pos 0) (rank old q) (rank_over old q p below marked) fits)
+      ∙ sym (at_within old values q within) ∙ sym (chosen_elsewhere p q None (at_page (of_marks old values)) differs)
   by q (inr differs) (inl within) (inr above) (inr marked) =
       let least : r ≤ rank new q = omega (arith, rank_before p old new there others p (omega arith), rank_le new p q above) in
       at_within new left q within ∙ ap (λ b. where_marked b (get_or left (rank new q) (pos 0))) (others q within (λ e. differs (sym e)))
-      ∙ ap (where_marked (bit_at old q)) (get_or-remove_above values r (pos 0) (rank new q) least fits)
-      ∙ ap (λ n. where_marked (bit_at old q) (get_or values n (pos 0))) (sym (rank_after p new old there back q is was (omega (arith, above, differs)) (omega (arith, within))))
-      ∙ sym (at_within old values q within) ∙ sym (chosen_elsewhere p q None (at_page (block_of old values)) differs)
+      ∙ ap (where_marked (old q)) (get_or-remove_above values r (pos 0) (rank new q) least fits)
+      ∙ ap (λ n. where_marked (old q) (get_or values n (pos 0))) (sym (rank_after p new old there back q is was (omega (arith, above, differs)) (omega (arith, within))))
+      ∙ sym (at_within old values q within) ∙ sym (chosen_elsewhere p q None (at_page (of_marks old values)) differs)
 
-pub forgotten_kept : (old new : ℕ) (values : List ℤ) (p : ℕ) → AreMarked old values → p < BLOCK → DifferAt p old new → bit_at old p ≡ 1 → bit_at new p ≡ 0
-    → AreMarked new (remove values (rank old p))
+pub forgotten_kept : (old new : ℕ → ℕ) (values : List ℤ) (p : ℕ) → AreMarked BLOCK old values → p < BLOCK → DifferAt BLOCK p old new → old p ≡ 1 → new p ≡ 0
+    → AreMarked BLOCK new (remove values (rank old p))
 forgotten_kept old new values p kept there others was is =
     omega (
       arith,
       kept,
-      length-remove values (rank old p) (omega (arith, kept, rank_over old p BLOCK there was)),
+      length-remove values (rank old p) (omega (arith, kept, rank_over old p BLOCK there (omega (arith, was)))),
       rank_after p new old there (λ q within differs. sym (others q within differs)) BLOCK is was there (omega arith),
     )
 
@@ -277,27 +278,26 @@ value_stays p q value written same = by (cases_eq p q) where
   by (inr differs) = sym (chosen_elsewhere p q value written differs)
 
 -- what the test of a mark says
-pub is_set : (marks p : ℕ) (b : Bool) → b ≡ (bit_at marks p == 1) → b ≡ true → bit_at marks p ≡ 1
-is_set marks p b is holds = eqb-true (bit_at marks p) 1 (sym is ∙ holds)
+pub is_one : (mark : ℕ) (b : Bool) → b ≡ (mark == 1) → b ≡ true → mark ≡ 1
+is_one mark b is holds = eqb-true mark 1 (sym is ∙ holds)
 
-pub is_clear : (marks p : ℕ) (b : Bool) → b ≡ (bit_at marks p == 1) → b ≡ false → bit_at marks p ≡ 0
-is_clear marks p b is fails = by (mark_is marks p) where
-  by : (bit_at marks p ≡ 0) ⊎ (bit_at marks p ≡ 1) → bit_at marks p ≡ 0
-  by (inl none) = none
-  by (inr marked) = absurd (false≢true (sym fails ∙ is ∙ eq-eqb (bit_at marks p) 1 marked))
+pub is_none : (mark : ℕ) (b : Bool) → mark < 2 → b ≡ (mark == 1) → b ≡ false → mark ≡ 0
+is_none mark b few is fails = by (cases_lt mark 1) where
+  by : (mark < 1) ⊎ (1 ≤ mark) → mark ≡ 0
+  by (inl none) = omega (arith, none)
+  by (inr set) =
+      let one : mark ≡ 1 = omega (arith, few, set) in
+      absurd (false≢true (sym fails ∙ is ∙ eq-eqb mark 1 one))
 
--- a place behind all marked ones isn't marked
-pub behind_unmarked : (marks p k : ℕ) → marks / 2 ^ p ≡ 0 → bit_at marks (p + k) ≡ 0
-behind_unmarked marks p k none = ap (λ n. n % 2) (sym (shr-shr marks p k)) ∙ ap (λ n. n / 2 ^ k % 2) none ∙ bit_at-zero k
-
--- and as many marked places lie below it as below each place behind it
-rank_stays : (marks p k : ℕ) → marks / 2 ^ p ≡ 0 → rank marks (p + k) ≡ rank marks p
-rank_stays marks p zero none = let same : p + 0 ≡ p = omega arith in ap (rank marks) same
-rank_stays marks p (suc k) none =
+-- where no place from this one on is marked, as many marked places lie below it as below each place behind it
+rank_stays : (marks : ℕ → ℕ) (p k : ℕ) → ((q : ℕ) → p ≤ q → q < BLOCK → marks q ≡ 0) → p + k ≤ BLOCK → rank marks (p + k) ≡ rank marks p
+rank_stays marks p zero none within = let same : p + 0 ≡ p = omega arith in ap (rank marks) same
+rank_stays marks p (suc k) none within =
     let next : p + suc k ≡ suc (p + k) = omega arith in
-    ap (rank marks) next ∙ omega (arith, rank_next marks (p + k), behind_unmarked marks p k none, rank_stays marks p k none)
+    ap (rank marks) next
+    ∙ omega (arith, rank_next marks (p + k), none (p + k) (omega arith) (omega (arith, within)), rank_stays marks p k none (omega (arith, within)))
 
-pub rank_last : (marks p : ℕ) → p ≤ BLOCK → marks / 2 ^ p ≡ 0 → rank marks p ≡ rank marks BLOCK
+pub rank_last : (marks : ℕ → ℕ) (p : ℕ) → p ≤ BLOCK → ((q : ℕ) → p ≤ q → q < BLOCK → marks q ≡ 0) → rank marks p ≡ rank marks BLOCK
 rank_last marks p there none =
     let on : p + (BLOCK - p) ≡ BLOCK = omega (arith, there) in
-    sym (rank_stays marks p (BLOCK - p) none) ∙ ap (rank marks) on
+    sym (rank_stays marks p (BLOCK - p) none (omega (arith, on))) ∙ ap (rank marks) on

@@ -3,6 +3,7 @@ use Rattle.std.specs.Prelude.{ℕ, suc, ◌/◌, ◌%◌, ◌==◌, nat_lt, if�
 use Rattle.std.specs.declared.option.Option.{Option}
 use Rattle.std.specs.Option.{unwrap_or}
 use Rattle.std.specs.Ordering.{int_eq}
+use Rattle.nona_sparse.specs.declared.group.TheConstants.{GROUP}
 use Rattle.nona_sparse.specs.declared.block.TheConstants.{BLOCK}
 use Rattle.nona_sparse.specs.declared.page.TheConstants.{PAGE}
 
@@ -25,6 +26,10 @@ of_page index page place = if place / PAGE == index then at_page page (place % P
 -- the value that the block with this index has at a place of the array, where it has one
 abbrev pub of_block : ℕ → List (Option ℤ) → ℕ → Option ℤ
 of_block index block place = if place / BLOCK == index then at_page block (place % BLOCK) else None
+
+-- the value that the group with this index has at a place of the array, where it has one
+abbrev pub of_group : ℕ → (ℕ → Option ℤ) → ℕ → Option ℤ
+of_group index written place = if place / GROUP == index then written (place % GROUP) else None
 
 -- one place has this value, or none, and the others have none
 abbrev pub only_at : ℕ → Option ℤ → ℕ → Option ℤ

@@ -1,110 +1,108 @@
-ghost use Rattle.std.specs.Prelude.{◌≡◌, ◌≢◌, ◌==◌, ◌<◌, ◌≤◌, ◌+◌, ◌*◌, ◌/◌, ◌^◌, ℕ, true, pos, length, slice_index_or, map, None, Some, All, FitsSigned, OnOk, OnErr};
-ghost use Rattle.std.specs.Int.{w64, bit_at};
+ghost use Rattle.std.specs.Prelude.{◌≡◌, ◌==◌, ◌<◌, ◌≤◌, ◌+◌, ◌-◌, ◌*◌, ℕ, true, length, vec_capacity, None, All, FitsSigned, OnOk, OnErr};
+ghost use Rattle.std.specs.Int.{w64};
 ghost use Rattle.std.specs.List.{insert};
 ghost use Rattle.std.specs.Option.{unwrap_or};
-ghost use Rattle.nona_sparse.specs.Marks.{AreMarked, IsLowest, changed_at, block_of, rank, value_at};
-ghost use Rattle.nona_sparse.specs.Sparse.{at_page, of_block, only_at, cell, with_at, change_at};
+ghost use Rattle.nona_sparse.specs.Marks.{AreMarkedIn, DifferAt, IsEnd, block_of, changed_at, mark_in, rank, value_at};
+ghost use Rattle.nona_sparse.specs.Sparse.{at_page, cell, change_at, of_block, with_at};
 
+use crate::group::{
+    GROUP, GROUPS, all_differ, count_of, is_marked, left_of, rank_of, value_behind, with_mark,
+    without_mark, write_values,
+};
 use std::alloc::{AllocError, Global};
 use std::marker::Model;
 
-/// How many places a block has: as many as there are bits in its marks.
-pub const BLOCK: usize = 64;
+/// How many groups a block has.
+pub const WORDS: usize = 4;
 
-/// How many values a block has room for from its first one on.
-const FIRST_ROOM: usize = 16;
+/// How many places a block has: 256.
+pub const BLOCK: usize = WORDS * GROUP;
 
 /// The most blocks of an array.
-pub const BLOCKS: usize = 65536;
+pub const BLOCKS: usize = GROUPS / WORDS;
 
-/// A block of a sparse array: a mark for each place that has a value, in the bits of a number, and the values in order of place. So it
-/// takes memory for the values that it has, and not for the places between them.
+/// How many values a block makes room for at least.
+const FIRST_ROOM: usize = 16;
+
+/// A block of a sparse array: a mark for each place that has a value, in the bits of a number for each group, and the values in order
+/// of place. So it takes memory for the values that it has, and not for the places between them. No place from `end` on has a value.
 #[derive(Drop)]
 pub struct Block {
-    marks: u64,
+    marks: [u64; WORDS],
     values: Vec<i64>,
+    end: usize,
 }
 
 impl Model for Block {
     ghost use Rattle.std.specs.Prelude.{ℤ, List, Option};
-    ghost use Rattle.nona_sparse.specs.Marks.{AreMarked, block_of};
+    ghost use Rattle.nona_sparse.specs.Marks.{AreMarkedIn, IsEnd, block_of};
 
     ghost Value = { List (Option ℤ) };
 
     ghost view = { λ p. block_of p.marks p.values.items };
 
-    ghost invariant = { λ p. AreMarked p.marks p.values.items };
+    ghost invariant = { λ p. AreMarkedIn p.marks p.values.items × IsEnd p.end p.marks };
 }
 
 // Whether a place is marked.
-fn is_marked(marks: u64, place: usize) -> bool
-    requires { place < BLOCK }
-    ensures { result ≡ (bit_at marks place == 1) }
+fn is_set(marks: &[u64; WORDS], place: usize) -> bool
+    requires long { length marks.now ≡ WORDS }
+    requires there { place < BLOCK }
+    ensures { result ≡ (mark_in marks.now place == 1) }
 {
-    marks >> place & 1 == 1
+    is_marked(marks[place / GROUP], place % GROUP)
+}
+
+// How many places of the groups before this one are marked.
+fn start_of(marks: &[u64; WORDS], group: usize) -> usize
+    requires long { length marks.now ≡ WORDS }
+    requires there { group < WORDS }
+    ensures { result ≡ rank (mark_in marks.now) (group * GROUP) }
+{
+    let mut start = 0;
+    'groups: for before in 0..group {
+        start += count_of(marks[before]);
+    }
+    start
 }
 
 // How many places below this one are marked.
-fn rank_of(marks: u64, place: usize) -> usize
-    requires { place < BLOCK }
-    ensures { result ≡ rank marks place }
-{
-    (marks & ((1 << place) - 1)).count_ones() as usize
-}
-
-// The lowest marked place of marks that have any.
-fn lowest(marks: u64) -> usize
-    requires { 0 < marks }
-    ensures there { result < BLOCK }
-    ensures marked { bit_at marks result ≡ 1 }
-    ensures least { (q : ℕ) → q < result → bit_at marks q ≡ 0 }
-{
-    marks.trailing_zeros() as usize
-}
-
-// The marks with this one as well.
-fn with_mark(marks: u64, place: usize) -> u64
-    requires { place < BLOCK }
-    ensures marked { bit_at result place ≡ 1 }
-    ensures others { (q : ℕ) → q < BLOCK → q ≢ place → bit_at result q ≡ bit_at marks q }
-{
-    marks | 1 << place
-}
-
-// The marks without this one.
-fn without_mark(marks: u64, place: usize) -> u64
+fn rank_in(marks: &[u64; WORDS], place: usize) -> usize
+    requires long { length marks.now ≡ WORDS }
     requires there { place < BLOCK }
-    requires marked { bit_at marks place ≡ 1 }
-    ensures unmarked { bit_at result place ≡ 0 }
-    ensures others { (q : ℕ) → q < BLOCK → q ≢ place → bit_at result q ≡ bit_at marks q }
-    ensures less { result < marks }
+    ensures { result ≡ rank (mark_in marks.now) place }
 {
-    marks & !(1 << place)
+    start_of(marks, place / GROUP) + rank_of(marks[place / GROUP], place % GROUP)
 }
 
-// The marks without the lowest one, where there are any.
-fn without_lowest(marks: u64) -> u64
-    requires { 0 < marks }
-    ensures unmarked { (place : ℕ) → IsLowest marks place → bit_at result place ≡ 0 }
-    ensures others { (place : ℕ) → IsLowest marks place → (q : ℕ) → q < BLOCK → q ≢ place → bit_at result q ≡ bit_at marks q }
-    ensures less { result < marks }
+// Marks a place.
+fn set_mark(marks: &mut [u64; WORDS], place: usize)
+    requires long { length marks.old ≡ WORDS }
+    requires there { place < BLOCK }
+    ensures long { length marks.new ≡ WORDS }
+    ensures marked { mark_in marks.new place ≡ 1 }
+    ensures others { DifferAt BLOCK place (mark_in marks.old) (mark_in marks.new) }
 {
-    marks & (marks - 1)
+    marks[place / GROUP] = with_mark(marks[place / GROUP], place % GROUP);
 }
 
-// Whether a place lies behind all marked ones.
-fn is_behind(marks: u64, place: usize) -> bool
-    requires { place < BLOCK }
-    ensures { result ≡ (marks / 2 ^ place == 0) }
+// Takes the mark of a place away.
+fn clear_mark(marks: &mut [u64; WORDS], place: usize)
+    requires long { length marks.old ≡ WORDS }
+    requires there { place < BLOCK }
+    ensures long { length marks.new ≡ WORDS }
+    ensures unmarked { mark_in marks.new place ≡ 0 }
+    ensures others { DifferAt BLOCK place (mark_in marks.old) (mark_in marks.new) }
 {
-    marks >> place == 0
+    marks[place / GROUP] = without_mark(marks[place / GROUP], place % GROUP);
 }
 
 // Makes room for as many values again, and for some at least. The values stay.
 #[cold]
 #[inline(never)]
 fn make_room(values: &mut Vec<i64>) -> Result<(), AllocError>
-    ensures { values.new.items ≡ values.old.items }
+    ensures same { values.new.items ≡ values.old.items }
+    ensures room { OnOk result (length values.new.items < vec_capacity values.new) }
 {
     values.reserve_exact(values.len().max(FIRST_ROOM))
 }
@@ -121,10 +119,8 @@ fn push_value(values: &mut Vec<i64>, value: i64) -> Result<(), AllocError>
             Err(error) => return Err(error),
         }
     }
-    match values.push(value) {
-        Ok(()) => Ok(()),
-        Err(_) => Err(AllocError),
-    }
+    values.push_reserved(value);
+    Ok(())
 }
 
 // Puts a value at a place of a list, before those from there on. Where memory runs out the list is unchanged.
@@ -133,8 +129,11 @@ fn insert_value(values: &mut Vec<i64>, at: usize, value: i64) -> Result<(), Allo
     ensures ok { OnOk result (values.new.items ≡ insert values.old.items at value) }
     ensures err { OnErr result (values.new.items ≡ values.old.items) }
 {
-    if at == values.len() {
-        return push_value(values, value);
+    if values.len() == values.capacity() {
+        match make_room(values) {
+            Ok(()) => {}
+            Err(error) => return Err(error),
+        }
     }
     match values.insert(at, value) {
         Ok(()) => Ok(()),
@@ -144,44 +143,50 @@ fn insert_value(values: &mut Vec<i64>, at: usize, value: i64) -> Result<(), Allo
 
 // Puts a value at a place that has none. Where memory runs out nothing changes.
 fn add_value(
-    marks: &mut u64,
+    marks: &mut [u64; WORDS],
     values: &mut Vec<i64>,
     place: usize,
     value: i64,
 ) -> Result<(), AllocError>
-    requires kept { AreMarked marks.old values.old.items }
+    requires kept { AreMarkedIn marks.old values.old.items }
     requires there { place < BLOCK }
-    requires unmarked { bit_at marks.old place ≡ 0 }
-    ensures kept { AreMarked marks.new values.new.items }
+    requires unmarked { mark_in marks.old place ≡ 0 }
+    ensures kept { AreMarkedIn marks.new values.new.items }
+    ensures others { DifferAt BLOCK place (mark_in marks.old) (mark_in marks.new) }
     ensures ok { OnOk result (at_page (block_of marks.new values.new.items) ≡ with_at place value (at_page (block_of marks.old values.old.items))) }
     ensures err { OnErr result (at_page (block_of marks.new values.new.items) ≡ at_page (block_of marks.old values.old.items)) }
 {
-    match insert_value(values, rank_of(*marks, place), value) {
+    match insert_value(values, rank_in(marks, place), value) {
         Ok(()) => {
-            *marks = with_mark(*marks, place);
+            set_mark(marks, place);
             Ok(())
         }
         Err(error) => Err(error),
     }
 }
 
-// Puts a value at a place behind all that have one. Where memory runs out nothing changes.
+// Puts a value at a place from the end on. Where memory runs out nothing changes.
+#[inline]
 fn append_value(
-    marks: &mut u64,
+    marks: &mut [u64; WORDS],
     values: &mut Vec<i64>,
+    end: &mut usize,
     place: usize,
     value: i64,
 ) -> Result<(), AllocError>
-    requires kept { AreMarked marks.old values.old.items }
+    requires kept { AreMarkedIn marks.old values.old.items }
+    requires end { IsEnd end.old marks.old }
     requires there { place < BLOCK }
-    requires behind { marks.old / 2 ^ place ≡ 0 }
-    ensures kept { AreMarked marks.new values.new.items }
+    requires behind { end.old ≤ place }
+    ensures kept { AreMarkedIn marks.new values.new.items }
+    ensures end { IsEnd end.new marks.new }
     ensures ok { OnOk result (at_page (block_of marks.new values.new.items) ≡ with_at place value (at_page (block_of marks.old values.old.items))) }
     ensures err { OnErr result (at_page (block_of marks.new values.new.items) ≡ at_page (block_of marks.old values.old.items)) }
 {
     match push_value(values, value) {
         Ok(()) => {
-            *marks = with_mark(*marks, place);
+            set_mark(marks, place);
+            *end = place + 1;
             Ok(())
         }
         Err(error) => Err(error),
@@ -191,21 +196,22 @@ fn append_value(
 // Puts a value at a place that lies before marked ones or is marked itself. Where memory runs out nothing changes.
 #[inline(never)]
 fn put_before(
-    marks: &mut u64,
+    marks: &mut [u64; WORDS],
     values: &mut Vec<i64>,
     place: usize,
     value: i64,
 ) -> Result<(), AllocError>
-    requires kept { AreMarked marks.old values.old.items }
+    requires kept { AreMarkedIn marks.old values.old.items }
     requires there { place < BLOCK }
-    ensures kept { AreMarked marks.new values.new.items }
+    ensures kept { AreMarkedIn marks.new values.new.items }
+    ensures others { DifferAt BLOCK place (mark_in marks.old) (mark_in marks.new) }
     ensures ok { OnOk result (at_page (block_of marks.new values.new.items) ≡ with_at place value (at_page (block_of marks.old values.old.items))) }
     ensures err { OnErr result (at_page (block_of marks.new values.new.items) ≡ at_page (block_of marks.old values.old.items)) }
 {
-    if !is_marked(*marks, place) {
+    if !is_set(marks, place) {
         return add_value(marks, values, place, value);
     }
-    let at = rank_of(*marks, place);
+    let at = rank_in(marks, place);
     values[at] = value;
     Ok(())
 }
@@ -213,173 +219,131 @@ fn put_before(
 // Puts a value at a place. Where memory runs out nothing changes.
 #[inline]
 fn put_value(
-    marks: &mut u64,
+    marks: &mut [u64; WORDS],
     values: &mut Vec<i64>,
+    end: &mut usize,
     place: usize,
     value: i64,
 ) -> Result<(), AllocError>
-    requires kept { AreMarked marks.old values.old.items }
+    requires kept { AreMarkedIn marks.old values.old.items }
+    requires end { IsEnd end.old marks.old }
     requires there { place < BLOCK }
-    ensures kept { AreMarked marks.new values.new.items }
+    ensures kept { AreMarkedIn marks.new values.new.items }
+    ensures end { IsEnd end.new marks.new }
     ensures ok { OnOk result (at_page (block_of marks.new values.new.items) ≡ with_at place value (at_page (block_of marks.old values.old.items))) }
     ensures err { OnErr result (at_page (block_of marks.new values.new.items) ≡ at_page (block_of marks.old values.old.items)) }
 {
-    if is_behind(*marks, place) {
-        return append_value(marks, values, place, value);
+    if *end <= place {
+        return append_value(marks, values, end, place, value);
     }
     put_before(marks, values, place, value)
 }
 
-// The value behind so many others.
-fn value_behind(values: &[i64], others: usize) -> i64
-    requires { others < length values.now }
-    ensures { result ≡ slice_index_or values.now others (pos 0) }
-{
-    values[others]
-}
-
 // The value at a place, where one is.
-fn value_of(marks: u64, values: &[i64], place: usize) -> Option<i64>
-    requires kept { AreMarked marks values.now }
+fn value_of(marks: &[u64; WORDS], values: &[i64], place: usize) -> Option<i64>
+    requires kept { AreMarkedIn marks.now values.now }
     requires there { place < BLOCK }
-    ensures { result ≡ value_at marks values.now place }
+    ensures { result ≡ value_at (mark_in marks.now) values.now place }
 {
-    if !is_marked(marks, place) {
+    if !is_set(marks, place) {
         return None;
     }
-    Some(value_behind(values, rank_of(marks, place)))
+    Some(value_behind(values, rank_in(marks, place)))
 }
 
-// What is left of a value that is written at a place of an array, beside its cells.
-fn left_of(written: Option<i64>, cells: &[i64], place: usize) -> Option<i64>
-    ensures { result ≡ change_at cells.now place written }
-{
-    match written {
-        Some(value) if place < cells.len() && value == cells[place] => None,
-        _ => written,
-    }
-}
-
-// Forgets the value of a marked place where it is that of the array's cell at `at`.
-fn forget_same(marks: &mut u64, values: &mut Vec<i64>, place: usize, cells: &[i64], at: usize)
-    requires kept { AreMarked marks.old values.old.items }
+// Forgets the value of a place, where it has one, if it is that of the array's cell at `at`.
+fn forget_same(
+    marks: &mut [u64; WORDS],
+    values: &mut Vec<i64>,
+    place: usize,
+    cells: &[i64],
+    at: usize,
+)
+    requires kept { AreMarkedIn marks.old values.old.items }
     requires there { place < BLOCK }
-    requires marked { bit_at marks.old place ≡ 1 }
-    ensures kept { AreMarked marks.new values.new.items }
-    ensures marks { (q : ℕ) → q < BLOCK → q ≢ place → bit_at marks.new q ≡ bit_at marks.old q }
+    ensures kept { AreMarkedIn marks.new values.new.items }
+    ensures fewer { (q : ℕ) → q < BLOCK → mark_in marks.old q ≡ 0 → mark_in marks.new q ≡ 0 }
     ensures left { (q : ℕ) → at_page (block_of marks.new values.new.items) q
         ≡ changed_at place (change_at cells.now at (at_page (block_of marks.old values.old.items) place)) (at_page (block_of marks.old values.old.items)) q }
 {
-    match left_of(value_of(*marks, values.as_slice(), place), cells, at) {
+    if !is_set(marks, place) {
+        return;
+    }
+    match left_of(value_of(marks, values.as_slice(), place), cells, at) {
         Some(_) => {}
         None => {
-            values.remove(rank_of(*marks, place));
-            *marks = without_mark(*marks, place);
+            values.remove(rank_in(marks, place));
+            clear_mark(marks, place);
         }
     }
 }
 
-// Whether each value of a block whose places are all marked is another one than the array's cell at its place, which stands behind
-// `first`.
-fn full_differs(values: &[i64], first: usize, cells: &[i64]) -> bool
-    requires full { length values.now ≡ BLOCK }
+// Forgets each of a block's values that the array's cell at its place, which stands behind `first`, has already.
+#[cold]
+#[inline(never)]
+fn forget_all_same(marks: &mut [u64; WORDS], values: &mut Vec<i64>, first: usize, cells: &[i64])
+    requires kept { AreMarkedIn marks.old values.old.items }
     requires first { first ≤ BLOCKS * BLOCK }
-    ensures { result ≡ true → (q : ℕ) → q < BLOCK → change_at cells.now (first + q) (at_page (map Some values.now) q) ≡ at_page (map Some values.now) q }
+    ensures kept { AreMarkedIn marks.new values.new.items }
+    ensures fewer { (q : ℕ) → q < BLOCK → mark_in marks.old q ≡ 0 → mark_in marks.new q ≡ 0 }
+    ensures left { (place : ℕ) → at_page (block_of marks.new values.new.items) place
+        ≡ change_at cells.now (first + place) (at_page (block_of marks.old values.old.items) place) }
 {
-    'places: for place in 0..BLOCK {
-        let value = value_behind(values, place);
-        if let None = left_of(Some(value), cells, first + place) {
-            return false;
-        }
+    'places: for done in 0..BLOCK {
+        let place = BLOCK - 1 - done;
+        forget_same(marks, values, place, cells, first + place);
     }
-    true
 }
 
 // Whether each of a block's values is another one than the array's cell at its place, which stands behind `first`.
-fn all_differ(marks: u64, values: &[i64], first: usize, cells: &[i64]) -> bool
-    requires kept { AreMarked marks values.now }
-    requires first { first ≤ BLOCKS * BLOCK }
-    ensures { result ≡ true → (q : ℕ) → q < BLOCK → change_at cells.now (first + q) (value_at marks values.now q) ≡ value_at marks values.now q }
+fn each_differs(marks: &[u64; WORDS], values: &[i64], first: usize, cells: &[i64]) -> bool
+    requires kept { AreMarkedIn marks.now values.now }
+    requires first { first ≤ (BLOCKS - 1) * BLOCK }
+    ensures { result ≡ true → (q : ℕ) → q < BLOCK
+        → change_at cells.now (first + q) (value_at (mark_in marks.now) values.now q) ≡ value_at (mark_in marks.now) values.now q }
 {
-    if marks == u64::MAX {
-        return full_differs(values, first, cells);
-    }
-    let mut rest = marks;
-    'values: for done in 0..values.len() {
-        let place = lowest(rest);
-        let value = value_behind(values, done);
-        if let None = left_of(Some(value), cells, first + place) {
+    let mut start = 0;
+    'groups: for group in 0..WORDS {
+        let end = start + count_of(marks[group]);
+        let own = &values[start..end];
+        if !all_differ(marks[group], own, first + group * GROUP, cells) {
             return false;
         }
-        rest = without_lowest(rest);
+        start = end;
     }
     true
 }
 
 // Leaves of a block's values those that the array's cells, from this place on, don't have.
-fn keep_left(marks: &mut u64, values: &mut Vec<i64>, first: usize, cells: &[i64])
-    requires kept { AreMarked marks.old values.old.items }
-    requires first { first ≤ BLOCKS * BLOCK }
-    ensures kept { AreMarked marks.new values.new.items }
+fn keep_left(marks: &mut [u64; WORDS], values: &mut Vec<i64>, first: usize, cells: &[i64])
+    requires kept { AreMarkedIn marks.old values.old.items }
+    requires first { first ≤ (BLOCKS - 1) * BLOCK }
+    ensures kept { AreMarkedIn marks.new values.new.items }
+    ensures fewer { (q : ℕ) → q < BLOCK → mark_in marks.old q ≡ 0 → mark_in marks.new q ≡ 0 }
     ensures left { (place : ℕ) → at_page (block_of marks.new values.new.items) place
         ≡ change_at cells.now (first + place) (at_page (block_of marks.old values.old.items) place) }
 {
-    if all_differ(*marks, values.as_slice(), first, cells) {
+    if each_differs(marks, values.as_slice(), first, cells) {
         return;
     }
-    let mut rest = *marks;
-    'places: while rest != 0 {
-        let place = lowest(rest);
-        forget_same(marks, values, place, cells, first + place);
-        rest = without_lowest(rest);
-    }
-}
-
-// Gives the cell at a place, if it is there, a value, if there is one.
-fn write_cell(value: Option<i64>, place: usize, cells: &mut [i64])
-    ensures long { length cells.new ≡ length cells.old }
-    ensures cells { (q : ℕ) → q < length cells.old → cell cells.new q ≡ unwrap_or (only_at place value q) (cell cells.old q) }
-    ensures numbers { All (FitsSigned w64) cells.old → All (FitsSigned w64) cells.new }
-{
-    if place < cells.len() {
-        if let Some(number) = value {
-            cells[place] = number;
-        }
-    }
-}
-
-// Writes the values of the array's block with this index, whose places are all marked, to the array's cells.
-fn write_full(values: &[i64], index: usize, cells: &mut [i64])
-    requires full { length values.now ≡ BLOCK }
-    requires index { index < BLOCKS }
-    ensures long { length cells.new ≡ length cells.old }
-    ensures cells { (q : ℕ) → q < length cells.old → cell cells.new q ≡ unwrap_or (of_block index (map Some values.now) q) (cell cells.old q) }
-    ensures numbers { All (FitsSigned w64) cells.old → All (FitsSigned w64) cells.new }
-{
-    'places: for place in 0..BLOCK {
-        let value = value_behind(values, place);
-        write_cell(Some(value), index * BLOCK + place, cells);
-    }
+    forget_all_same(marks, values, first, cells);
 }
 
 // Writes the values of the array's block with this index to the array's cells.
-fn write_values(marks: u64, values: &[i64], index: usize, cells: &mut [i64])
-    requires kept { AreMarked marks values.now }
+fn write_groups(marks: &[u64; WORDS], values: &[i64], index: usize, cells: &mut [i64])
+    requires kept { AreMarkedIn marks.now values.now }
     requires index { index < BLOCKS }
     ensures long { length cells.new ≡ length cells.old }
-    ensures cells { (q : ℕ) → q < length cells.old → cell cells.new q ≡ unwrap_or (of_block index (block_of marks values.now) q) (cell cells.old q) }
+    ensures cells { (q : ℕ) → q < length cells.old
+        → cell cells.new q ≡ unwrap_or (of_block index (block_of marks.now values.now) q) (cell cells.old q) }
     ensures numbers { All (FitsSigned w64) cells.old → All (FitsSigned w64) cells.new }
 {
-    if marks == u64::MAX {
-        write_full(values, index, cells);
-        return;
-    }
-    let mut rest = marks;
-    'values: for done in 0..values.len() {
-        let place = lowest(rest);
-        let value = value_behind(values, done);
-        write_cell(Some(value), index * BLOCK + place, cells);
-        rest = without_lowest(rest);
+    let mut start = 0;
+    'groups: for group in 0..WORDS {
+        let end = start + count_of(marks[group]);
+        let own = &values[start..end];
+        write_values(marks[group], own, index * WORDS + group, cells);
+        start = end;
     }
 }
 
@@ -389,20 +353,30 @@ impl Block {
         ensures { (place : ℕ) → at_page result place ≡ None }
     {
         Block {
-            marks: 0,
+            marks: [0; WORDS],
             values: Vec::new(alloc),
+            end: 0,
         }
+    }
+
+    /// How many values it has.
+    pub fn count(&self) -> usize {
+        self.values.len()
+    }
+
+    /// Makes room for so many values more. What stands at its places stays.
+    pub fn reserve(&mut self, count: usize) -> Result<(), AllocError>
+        ensures { self.new ≡ self.old }
+    {
+        self.values.reserve_exact(count)
     }
 
     /// The value at a place, where one is. Takes constant time.
     pub fn get(&self, place: usize) -> Option<i64>
+        requires { place < BLOCK }
         ensures { result ≡ at_page self.now place }
     {
-        let marks = self.marks;
-        if place >= BLOCK {
-            return None;
-        }
-        value_of(marks, self.values.as_slice(), place)
+        value_of(&self.marks, self.values.as_slice(), place)
     }
 
     /// Puts a value at a place. Nothing else changes, nor anything where memory runs out. Takes constant time: where the place had
@@ -412,7 +386,13 @@ impl Block {
         ensures ok { OnOk result (at_page self.new ≡ with_at place value (at_page self.old)) }
         ensures err { OnErr result (at_page self.new ≡ at_page self.old) }
     {
-        put_value(&mut self.marks, &mut self.values, place, value)
+        put_value(
+            &mut self.marks,
+            &mut self.values,
+            &mut self.end,
+            place,
+            value,
+        )
     }
 
     /// Forgets each value that the array's cell has already, where this is the array's block with this index. Takes a time in
@@ -432,6 +412,6 @@ impl Block {
         ensures cells { (q : ℕ) → q < length cells.old → cell cells.new q ≡ unwrap_or (of_block index self.now q) (cell cells.old q) }
         ensures numbers { All (FitsSigned w64) cells.old → All (FitsSigned w64) cells.new }
     {
-        write_values(self.marks, self.values.as_slice(), index, cells);
+        write_groups(&self.marks, self.values.as_slice(), index, cells);
     }
 }

@@ -5,6 +5,7 @@
 #![tactic(auto)]
 
 mod block;
+mod group;
 mod page;
 mod sparse;
 

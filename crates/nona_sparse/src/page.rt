@@ -14,7 +14,7 @@ pub const PAGE: usize = PARTS * BLOCK;
 pub const PAGES: usize = BLOCKS / PARTS;
 
 /// The most blocks of a page.
-const PARTS: usize = 64;
+const PARTS: usize = 16;
 
 /// A page of a sparse array: its first blocks. The places of those behind them have no value.
 #[derive(Drop)]
@@ -34,21 +34,31 @@ impl Model for Page {
     ghost invariant = { λ p. length p.blocks.items ≤ PARTS };
 }
 
-// Adds blocks without values until there is the one with this index: none where it is there already. Where memory runs out, there may
-// be some more.
+// How many values the last of some blocks has: none where there is no block.
+fn last_count(blocks: &Vec<Block>) -> usize {
+    match blocks.last() {
+        Some(block) => block.count(),
+        None => 0,
+    }
+}
+
+// Adds blocks without values until there is the one with this index, which isn't there yet. That one gets room for as many values as
+// the one that was last has, since neighbours mostly have as many. Where memory runs out, there may be some more.
 #[cold]
 #[inline(never)]
 fn make_blocks(alloc: Global, blocks: &mut Vec<Block>, index: usize) -> Result<(), AllocError>
     requires few { length blocks.old.items ≤ PARTS }
+    requires behind { length blocks.old.items ≤ index }
     requires index { index < PARTS }
     ensures same { at_parts BLOCK blocks.new.items ≡ at_parts BLOCK blocks.old.items }
     ensures few { length blocks.new.items ≤ PARTS }
     ensures there { OnOk result (index < length blocks.new.items) }
 {
+    let room = last_count(blocks);
     for _ in blocks.len()..index + 1 {
         blocks.push(Block::begin(alloc))?;
     }
-    Ok(())
+    blocks[index].reserve(room)
 }
 
 // Adds blocks without values where the one with this index isn't there yet. Where memory runs out, there may be some
@@ -101,7 +111,7 @@ impl Page {
     }
 
     /// Puts a value at a place. Nothing else changes, nor anything where memory runs out. Takes constant time: where the place's block
-    /// isn't there yet, up to 64 blocks are made.
+    /// isn't there yet, up to 16 blocks are made.
     pub fn put(&mut self, place: usize, value: i64) -> Result<(), AllocError>
         requires { place < PAGE }
         ensures ok { OnOk result (at_page self.new ≡ with_at place value (at_page self.old)) }

@@ -11,7 +11,7 @@ pub const PLACES: usize = PAGES * PAGE;
 
 /// Values of 64 bits that are written over the cells of an array and aren't in it yet. Contracts see its pages: for each place the
 /// value that was last put there, if any was (`at`). It takes memory for the values that it has, with room for some more, and a few
-/// words for each page of 4,096 places up to the last one that has values, and for each block of 64 places of such a page up to the
+/// words for each page of 4,096 places up to the last one that has values, and for each block of 256 places of such a page up to the
 /// last one that has values.
 #[derive(Drop)]
 pub struct SparseArray {
@@ -101,9 +101,9 @@ impl SparseArray {
         self.pages[index].get(place % PAGE)
     }
 
-    /// Puts a value at this place, in place of one that was there. Takes constant time, but where the place's page or
-    /// block has to be made: then it may take up to 1,024 pages and 64 blocks without values, which are there from then on. Where memory runs out, each place has what
-    /// it had.
+    /// Puts a value at this place, in place of one that was there. Takes constant time, but where the place's page or block has to be
+    /// made: then it may take up to 1,024 pages and 16 blocks without values, which are there from then on. Where memory runs out, each
+    /// place has what it had.
     pub fn put(&mut self, place: usize, value: i64) -> Result<(), AllocError>
         requires { place < PLACES }
         ensures ok { OnOk result (at self.new ≡ with_at place value (at self.old)) }

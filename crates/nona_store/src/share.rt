@@ -94,7 +94,7 @@ impl Share {
         requires { length self.old.scalars < self.old.room }
         ensures { self.new ≡ record self.old { scalars = self.old.scalars ++ value ∷ [] } }
     {
-        self.scalars.push(value).unwrap();
+        self.scalars.push_reserved(value);
     }
 
     /// Drops the last scalars, of which there are at least `count`. Takes constant time.

@@ -1,25 +1,24 @@
 use Rattle.std.proofs.Common.{◌≡◌, ◌∙◌, arith, slice_set, w64}
 use Rattle.nona_sparse.specs.declared.block.TheConstants.{BLOCK}
-use Rattle.std.specs.Int.{bit_at}
 use Rattle.std.proofs.lemmas.Int.{to_z-of_z}
-use Rattle.nona_sparse.specs.Marks.{block_of}
+use Rattle.nona_sparse.specs.Marks.{block_of, mark_in}
 use Rattle.nona_sparse.specs.Sparse.{at_page}
-use Rattle.nona_sparse.proofs.Marking.{is_set, rank_over, value_changed}
+use Rattle.nona_sparse.proofs.Marking.{is_one, rank_over, value_changed}
 use Rattle.nona_sparse.proofs.block.put_before.Goals as goal
 
 pub index_mut-requires : goal.index_mut-requires
 index_mut-requires c =
-    let marks = c.args.marks.now in
+    let marks = mark_in c.args.marks.now in
     let place = c.args.place in
-    let marked : bit_at marks place ≡ 1 = is_set marks place c.is_marked.result c.is_marked.ensures c.if-not-is_marked.false in
-    omega (arith, c.rank_of-at.ensures, c.requires.kept, rank_over marks place BLOCK c.requires.there marked)
+    let marked : marks place ≡ 1 = is_one (marks place) c.is_set.result c.is_set.ensures c.if-not-is_set.false in
+    omega (arith, c.rank_in-at.ensures, c.requires.kept.1, rank_over marks place BLOCK c.requires.there (omega (arith, marked)))
 
 pub returns-clause-ok : goal.returns-clause-ok
 returns-clause-ok c =
-    let marks = c.args.marks.now in
+    let marks = mark_in c.args.marks.now in
     let values = c.args.values.now.items in
     let place = c.args.place in
     let v = c.args.value in
-    let marked : bit_at marks place ≡ 1 = is_set marks place c.is_marked.result c.is_marked.ensures c.if-not-is_marked.false in
-    (λ i. at_page (block_of marks (slice_set values (c.rank_of-at.ensures i) (to_z-of_z w64 v c.ranges.value i))))
-    ∙ value_changed marks values place v c.requires.kept c.requires.there marked
+    let marked : marks place ≡ 1 = is_one (marks place) c.is_set.result c.is_set.ensures c.if-not-is_set.false in
+    (λ i. at_page (block_of c.args.marks.now (slice_set values (c.rank_in-at.ensures i) (to_z-of_z w64 v c.ranges.value i))))
+    ∙ value_changed marks values place v c.requires.kept.1 c.requires.there (omega (arith, marked))

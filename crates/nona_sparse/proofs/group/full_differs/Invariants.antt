@@ -1,6 +1,6 @@
 use Rattle.std.proofs.Common.{◌≡◌, ◌<◌, ◌+◌, ℕ, map, Some}
 use Rattle.nona_sparse.specs.Sparse.{at_page, change_at}
-use Rattle.nona_sparse.proofs.block.full_differs.Given as goal
+use Rattle.nona_sparse.proofs.group.full_differs.Given as goal
 
 -- the values so far differ
 abbrev pub invariant-places : goal.invariant-places

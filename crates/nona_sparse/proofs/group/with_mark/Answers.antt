@@ -1,6 +1,6 @@
 use Rattle.std.specs.Int.{w64}
 use Rattle.std.proofs.lemmas.Nat.Bits.{bit_at_set_same, bit_at_set_other}
-use Rattle.nona_sparse.proofs.block.with_mark.Goals as goal
+use Rattle.nona_sparse.proofs.group.with_mark.Goals as goal
 
 pub returns-clause-marked : goal.returns-clause-marked
 returns-clause-marked c = bit_at_set_same w64 c.args.marks c.args.place c.requires

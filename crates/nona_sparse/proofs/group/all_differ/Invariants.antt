@@ -1,13 +1,13 @@
 use Rattle.std.proofs.Common.{◌≡◌, ◌<◌, ◌+◌, ℕ}
 use Rattle.std.specs.Int.{bit_at}
-use Rattle.nona_sparse.specs.declared.block.TheConstants.{BLOCK}
+use Rattle.nona_sparse.specs.declared.group.TheConstants.{GROUP}
 use Rattle.nona_sparse.specs.Marks.{AreBehind, value_at}
 use Rattle.nona_sparse.specs.Sparse.{change_at}
-use Rattle.nona_sparse.proofs.block.all_differ.Given as goal
+use Rattle.nona_sparse.proofs.group.all_differ.Given as goal
 
 -- each value so far is another one than the cell, and the marks of the others are left
 abbrev pub invariant-values : goal.invariant-values
 invariant-values l = record {
-  left : AreBehind l.marks l.done l.rest;
-  differ : (q : ℕ) → q < BLOCK → bit_at l.rest q ≡ 0 → change_at l.cells (l.first + q) (value_at l.marks l.values q) ≡ value_at l.marks l.values q;
+  left : AreBehind (bit_at l.marks) l.done (bit_at l.rest);
+  differ : (q : ℕ) → q < GROUP → bit_at l.rest q ≡ 0 → change_at l.cells (l.first + q) (value_at (bit_at l.marks) l.values q) ≡ value_at (bit_at l.marks) l.values q;
 }

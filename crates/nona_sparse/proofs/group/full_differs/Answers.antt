@@ -4,7 +4,7 @@ use Rattle.std.proofs.lemmas.Int.{to_z-of_z}
 use Rattle.std.proofs.lemmas.List.{get_or-map}
 use Rattle.nona_sparse.specs.Sparse.{at_page, change_at}
 use Rattle.nona_sparse.proofs.Leaving.{change_stays}
-use Rattle.nona_sparse.proofs.block.full_differs.Goals as goal
+use Rattle.nona_sparse.proofs.group.full_differs.Goals as goal
 
 -- one more value differs
 next : (values cells : List ℤ) (first place : ℕ)

@@ -2,7 +2,7 @@ use Rattle.std.proofs.Common.{◌∙◌, ◌-◌, ap}
 use Rattle.std.specs.Int.RustNames.{bit_and, count_ones}
 use Rattle.std.proofs.lemmas.Nat.{and_mask, one_shl}
 use Rattle.nona_sparse.proofs.Marking.{counted}
-use Rattle.nona_sparse.proofs.block.rank_of.Goals as goal
+use Rattle.nona_sparse.proofs.group.rank_of.Goals as goal
 
 pub returns : goal.returns
 returns c =
