@@ -134,7 +134,7 @@ fn settle_pages(store: &mut Store, tasks: &mut Vec<Task>)
 }
 
 /// The store with each cell that tasks have changed and each reduction joined. Takes no memory, and a time in proportion to the
-/// blocks of the tasks' overlays, to the values in them, to the reductions, and for each array to the most pages that a task has of it,
+/// pages of the tasks' overlays, to the values in them, to the reductions, and for each array to the most pages that a task has of it,
 /// the latter two times the tasks. What the pages leave, which no clause says is nothing, goes task by task.
 #[tactic(auto, using(crate::proofs::Gathering::still_there, crate::proofs::Gathering::left_gathered))]
 pub(crate) fn settled(store: Store, tasks: Vec<Task>, reductions: &[(u32, Fold)]) -> Store

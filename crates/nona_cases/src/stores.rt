@@ -1,5 +1,7 @@
 //! The store of a program.
 
+ghost use Rattle.std.specs.Prelude.{◌<◌};
+
 use crate::programs::checked_of;
 use nona_sparse::SparseArray;
 use nona_store::{Bank, Overlay, Share, ShareBank, Store, read_numbers};
@@ -98,8 +100,8 @@ fn a_sparse_array_has_what_was_last_put(rt: HostRuntime) -> Result<(), Fail> {
     Ok(())
 }
 
-/// How many places the next test puts values at: those of two blocks, and some of a third.
-const PLACES: usize = 600;
+/// How many places the next test puts values at: those of two pages, and some of a third.
+const PLACES: usize = 2500;
 
 /// Puts its number at every other place, from the last one down.
 fn put_down(written: &mut SparseArray) -> Result<(), AllocError> {
@@ -119,6 +121,16 @@ fn put_between(written: &mut SparseArray) -> Result<(), AllocError> {
     Ok(())
 }
 
+/// Puts another number at a place, reads it, and puts the place's own again.
+fn put_anew(written: &mut SparseArray, place: usize) -> Result<Option<i64>, AllocError>
+    requires { place < PLACES }
+{
+    written.put(place, -9)?;
+    let read = written.get(place);
+    written.put(place, place as i64)?;
+    Ok(read)
+}
+
 /// The first place whose cell has another number than its own.
 fn first_other(cells: &[i64]) -> Option<usize> {
     for place in 0..cells.len().min(PLACES) {
@@ -135,6 +147,13 @@ fn values_that_are_put_in_any_order(rt: HostRuntime) -> Result<(), Fail> {
     let mut written = SparseArray::begin(alloc);
     put_down(&mut written)?;
     put_between(&mut written)?;
+    let anew = [
+        put_anew(&mut written, 0)?,
+        put_anew(&mut written, 1023)?,
+        put_anew(&mut written, 1024)?,
+        put_anew(&mut written, PLACES - 1)?,
+    ];
+    assert_eq!(rt; anew, [Some(-9); 4]);
     let mut cells = vec![in alloc; -1i64; PLACES]?;
     assert_eq!(rt; first_other(cells.as_slice()), Some(0));
     written.write_to(cells.as_mut_slice());

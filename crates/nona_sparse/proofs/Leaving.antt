@@ -1,18 +1,14 @@
--- What is left of a block's values beside an array's cells, and what of a group is written, place by place.
-use Rattle.std.proofs.Common.{◌≡◌, ◌≢◌, ◌<◌, ◌≤◌, ◌+◌, ◌-◌, ◌*◌, ◌/◌, ◌%◌, ◌==◌, ℕ, suc, nat_lt, Bool, true, false, if◌then◌else◌, ℤ, List, length, Option, None, Some, refl, sym, ap, ◌∙◌, arith, ◌⊎◌, inl, inr}
+-- What is left of a page's values beside an array's cells, and what of a group is written, place by place.
+use Rattle.std.proofs.Common.{is_some, ◌≡◌, ◌≢◌, ◌<◌, ◌≤◌, ◌+◌, ◌-◌, ◌*◌, ◌/◌, ◌%◌, ◌==◌, ℕ, suc, nat_lt, Bool, true, false, if◌then◌else◌, ℤ, List, length, Option, None, Some, refl, sym, ap, ◌∙◌, arith, ◌⊎◌, inl, inr}
 use Rattle.std.specs.Option.{unwrap_or}
 use Rattle.std.specs.Ordering.{int_eq}
 use Rattle.std.proofs.lemmas.Bool.{cases_eq, cases_lt, eq-eqb, ne_eqb}
 use Rattle.nona_sparse.specs.declared.group.TheConstants.{GROUP}
-use Rattle.nona_sparse.specs.declared.block.TheConstants.{BLOCK}
-use Rattle.nona_sparse.specs.Marks.{DifferAt, by_mark, changed_at, value_at}
-use Rattle.nona_sparse.specs.Sparse.{at_page, cell, change_at, only_at}
-use Rattle.nona_sparse.proofs.Marking.{at_behind, at_within, chosen_elsewhere, chosen_here, either, of_marks, unmarked}
-
--- a choice between two that are one
-same_either : {X : Type 0} (b : Bool) (x : X) → (if b then x else x) ≡ x
-same_either true x = refl
-same_either false x = refl
+use Rattle.nona_sparse.specs.declared.page.TheConstants.{PAGE}
+use Rattle.nona_sparse.specs.Marks.{DifferAt, by_mark, changed_at, of_marks, value_at}
+use Rattle.nona_sparse.specs.Sparse.{at_page, cell, change_at, if_left, only_at}
+use Rattle.nona_sparse.proofs.Choosing.{same_either}
+use Rattle.nona_sparse.proofs.Marking.{at_behind, at_within, chosen_elsewhere, chosen_here, either, unmarked}
 
 -- nothing is left of nothing
 pub none_changed : (cells : List ℤ) (at : ℕ) → change_at cells at None ≡ None
@@ -28,34 +24,55 @@ pub change_stays : (cells : List ℤ) (at : ℕ) (written : Option ℤ) (w : ℤ
 change_stays cells at None w h = none_changed cells at
 change_stays cells at (Some v) w h = stays_if (nat_lt at (length cells)) (int_eq v (cell cells at)) v w h
 
--- behind a block's places nothing is left of nothing
-pub none_done : (marks : ℕ → ℕ) (values cells : List ℤ) (first : ℕ) (q : ℕ) → BLOCK ≤ q → at_page (of_marks marks values) q ≡ change_at cells (first + q) (at_page (of_marks marks values) q)
+-- and nothing is left of it, or it
+pub change_is : (cells : List ℤ) (at : ℕ) (written : Option ℤ) (left : Bool) → is_some (change_at cells at written) ≡ left → change_at cells at written ≡ if_left left written
+change_is cells at written left is = by (change_at cells at written) left refl is where
+  by : (o : Option ℤ) (left : Bool) → change_at cells at written ≡ o → is_some o ≡ left → change_at cells at written ≡ if_left left written
+  by None true same is = cc
+  by None false same is = same
+  by (Some w) true same is = change_stays cells at written w same
+  by (Some w) false same is = cc
+
+-- of nothing nothing is left either way
+pub none_either : (cells : List ℤ) (at : ℕ) (left : Bool) (written : Option ℤ) → written ≡ None → change_at cells at written ≡ if_left left written
+none_either cells at left written none = ap (change_at cells at) none ∙ none_changed cells at ∙ sym (same_either left None) ∙ ap (if_left left) (sym none)
+
+-- behind a page's places nothing is left of nothing
+pub none_done : (marks : ℕ → ℕ) (values cells : List ℤ) (first : ℕ) (q : ℕ) → PAGE ≤ q → at_page (of_marks marks values) q ≡ change_at cells (first + q) (at_page (of_marks marks values) q)
 none_done marks values cells first q behind =
     at_behind marks values q behind ∙ sym (none_changed cells (first + q)) ∙ ap (change_at cells (first + q)) (sym (at_behind marks values q behind))
 
 -- one more place is done, from the last one down
-module _ (left : ℕ → Option ℤ → Option ℤ) (was now next : ℕ → Option ℤ) (p done : ℕ) (last : p + (done + 1) ≡ BLOCK)
-    (own : (q : ℕ) → next q ≡ changed_at p (left p (now p)) now q) (before : (q : ℕ) → q + done < BLOCK → now q ≡ was q) where
-  pub next_same : (q : ℕ) → q + (done + 1) < BLOCK → next q ≡ was q
+module _ (left : ℕ → Option ℤ → Option ℤ) (was now next : ℕ → Option ℤ) (p done : ℕ) (last : p + (done + 1) ≡ PAGE)
+    (own : (q : ℕ) → next q ≡ changed_at p (left p (now p)) now q) (before : (q : ℕ) → q + done < PAGE → now q ≡ was q) where
+  pub next_same : (q : ℕ) → q + (done + 1) < PAGE → next q ≡ was q
   next_same q below =
       own q ∙ chosen_elsewhere p q (left p (now p)) now (λ e. omega (arith, e, last, below)) ∙ before q (omega (arith, below))
 
-  pub next_done : ((q : ℕ) → BLOCK ≤ q + done → now q ≡ left q (was q)) → (q : ℕ) → BLOCK ≤ q + (done + 1) → next q ≡ left q (was q)
+  pub next_done : ((q : ℕ) → PAGE ≤ q + done → now q ≡ left q (was q)) → (q : ℕ) → PAGE ≤ q + (done + 1) → next q ≡ left q (was q)
   next_done behind = λ q above. by q above (cases_eq p q) where
-    by : (q : ℕ) → BLOCK ≤ q + (done + 1) → (p ≡ q) ⊎ (p ≢ q) → next q ≡ left q (was q)
+    by : (q : ℕ) → PAGE ≤ q + (done + 1) → (p ≡ q) ⊎ (p ≢ q) → next q ≡ left q (was q)
     by q above (inl same) =
         own q ∙ chosen_here p q (left p (now p)) now same ∙ ap (left p) (before p (omega (arith, last))) ∙ ap (λ n. left n (was n)) same
     by q above (inr differs) = own q ∙ chosen_elsewhere p q (left p (now p)) now differs ∙ behind q (omega (arith, above, last, differs))
 
 -- where each value is another one than the cell, all of them are left
 pub all_same : (marks : ℕ → ℕ) (values cells : List ℤ) (first : ℕ)
-    → ((q : ℕ) → q < BLOCK → change_at cells (first + q) (value_at marks values q) ≡ value_at marks values q)
+    → ((q : ℕ) → q < PAGE → change_at cells (first + q) (value_at marks values q) ≡ value_at marks values q)
     → (q : ℕ) → at_page (of_marks marks values) q ≡ change_at cells (first + q) (at_page (of_marks marks values) q)
-all_same marks values cells first each = λ q. by q (cases_lt q BLOCK) where
-  by : (q : ℕ) → (q < BLOCK) ⊎ (BLOCK ≤ q) → at_page (of_marks marks values) q ≡ change_at cells (first + q) (at_page (of_marks marks values) q)
+all_same marks values cells first each = λ q. by q (cases_lt q PAGE) where
+  by : (q : ℕ) → (q < PAGE) ⊎ (PAGE ≤ q) → at_page (of_marks marks values) q ≡ change_at cells (first + q) (at_page (of_marks marks values) q)
   by q (inl within) =
       at_within marks values q within ∙ sym (each q within) ∙ ap (change_at cells (first + q)) (sym (at_within marks values q within))
   by q (inr behind) = none_done marks values cells first q behind
+
+-- and where each is the same one, none
+pub none_same : (marks : ℕ → ℕ) (values cells : List ℤ) (first : ℕ) → ((q : ℕ) → q < PAGE → change_at cells (first + q) (value_at marks values q) ≡ None)
+    → (q : ℕ) → None ≡ change_at cells (first + q) (at_page (of_marks marks values) q)
+none_same marks values cells first each = λ q. by q (cases_lt q PAGE) where
+  by : (q : ℕ) → (q < PAGE) ⊎ (PAGE ≤ q) → None ≡ change_at cells (first + q) (at_page (of_marks marks values) q)
+  by q (inl within) = sym (each q within) ∙ ap (change_at cells (first + q)) (sym (at_within marks values q within))
+  by q (inr behind) = sym (none_changed cells (first + q)) ∙ ap (change_at cells (first + q)) (sym (at_behind marks values q behind))
 
 -- what of a group is written, but for the places that are marked here
 abbrev pub but_marked : ℕ → (ℕ → ℕ) → (ℕ → Option ℤ) → ℕ → Option ℤ

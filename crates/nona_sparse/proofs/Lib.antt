@@ -1,3 +1,4 @@
+mod Choosing
 pub mod Grouping
 pub mod Leaving
 mod Lowest
@@ -6,3 +7,4 @@ pub mod Paging
 pub mod Parts
 pub mod Passing
 pub mod Placing
+pub mod Shifting

@@ -1,4 +1,4 @@
--- Ranks of places among marks, and blocks whose marks and values change.
+-- Ranks of places among marks, and pages whose marks and values change.
 use Rattle.std.proofs.Common.{◌≡◌, ◌≢◌, ◌<◌, ◌≤◌, ◌+◌, ◌-◌, ◌%◌, ◌^◌, ◌==◌, ℕ, zero, suc, Bool, true, false, if◌then◌else◌, ℤ, pos, List, [], ◌∷◌, ◌++◌, length, get_or, slice_set, Option, None, Some, refl, sym, ap, ◌∙◌, arith, ◌⊎◌, inl, inr}
 use Rattle.std.specs.Int.{bit_at}
 use Rattle.std.specs.Int.RustNames.{count_ones}
@@ -8,8 +8,8 @@ use Rattle.std.proofs.lemmas.List.{get_or_append_left, get_or_at, get_or_past, g
 use Rattle.std.proofs.lemmas.List.Edits.{length-insert, length-remove, get_or-insert_below, get_or-insert_at, get_or-insert_above, get_or-remove_below, get_or-remove_above}
 use Rattle.std.proofs.lemmas.Nat.{mod-pow-add, pow_pos, ones_cat, ones_le_self, zero_from_ones}
 use native.Mathlib.Nat.{mod-lt}
-use Rattle.nona_sparse.specs.declared.block.TheConstants.{BLOCK}
-use Rattle.nona_sparse.specs.Marks.{AreMarked, DifferAt, changed_at, rank, up_to, value_at, where_marked}
+use Rattle.nona_sparse.specs.declared.page.TheConstants.{PAGE}
+use Rattle.nona_sparse.specs.Marks.{AreMarked, DifferAt, changed_at, of_marks, rank, up_to, value_at, where_marked}
 use Rattle.nona_sparse.specs.Sparse.{at_page, with_at}
 use Rattle.nona_sparse.proofs.Placing.{here, elsewhere}
 
@@ -90,16 +90,13 @@ up_to_at (suc n) written q within = by (up_to_at n written q) (cases_lt q n) whe
       let is : q ≡ n = omega (arith, within, above) in
       get_or_at (up_to n written) (written n) [] None q (up_to_length n written ∙ sym is) ∙ ap written (sym is)
 
--- what stands at each place of a block with these marks
-abbrev pub of_marks : (ℕ → ℕ) → List ℤ → List (Option ℤ)
-of_marks marks values = up_to BLOCK (value_at marks values)
-
-pub at_within : (marks : ℕ → ℕ) (values : List ℤ) (q : ℕ) → q < BLOCK → at_page (of_marks marks values) q ≡ value_at marks values q
-at_within marks values q within = up_to_at BLOCK (value_at marks values) q within
+-- what stands at a place of a page with these marks
+pub at_within : (marks : ℕ → ℕ) (values : List ℤ) (q : ℕ) → q < PAGE → at_page (of_marks marks values) q ≡ value_at marks values q
+at_within marks values q within = up_to_at PAGE (value_at marks values) q within
 
 -- behind its places nothing does
-pub at_behind : (marks : ℕ → ℕ) (values : List ℤ) (q : ℕ) → BLOCK ≤ q → at_page (of_marks marks values) q ≡ None
-at_behind marks values q behind = get_or_past (of_marks marks values) q None (omega (arith, behind, up_to_length BLOCK (value_at marks values)))
+pub at_behind : (marks : ℕ → ℕ) (values : List ℤ) (q : ℕ) → PAGE ≤ q → at_page (of_marks marks values) q ≡ None
+at_behind marks values q behind = get_or_past (of_marks marks values) q None (omega (arith, behind, up_to_length PAGE (value_at marks values)))
 
 -- nor at a place that isn't marked
 pub unmarked : (marks : ℕ → ℕ) (values : List ℤ) (q : ℕ) → marks q ≡ 0 → value_at marks values q ≡ None
@@ -113,8 +110,8 @@ marked_value marks values q set =
 
 -- where no place is marked, nothing stands anywhere
 pub none_marked : (marks : ℕ → ℕ) (values : List ℤ) → ((q : ℕ) → marks q ≡ 0) → (q : ℕ) → at_page (of_marks marks values) q ≡ None
-none_marked marks values none = λ q. by q (cases_lt q BLOCK) where
-  by : (q : ℕ) → (q < BLOCK) ⊎ (BLOCK ≤ q) → at_page (of_marks marks values) q ≡ None
+none_marked marks values none = λ q. by q (cases_lt q PAGE) where
+  by : (q : ℕ) → (q < PAGE) ⊎ (PAGE ≤ q) → at_page (of_marks marks values) q ≡ None
   by q (inl within) = at_within marks values q within ∙ unmarked marks values q (none q)
   by q (inr behind) = at_behind marks values q behind
 
@@ -122,7 +119,7 @@ pub none_ranked : (marks : ℕ → ℕ) (p : ℕ) → ((q : ℕ) → marks q ≡
 none_ranked marks zero none = rank_first marks
 none_ranked marks (suc p) none = omega (arith, rank_next marks p, none_ranked marks p none, none p)
 
-module _ (p : ℕ) (old new : ℕ → ℕ) (there : p < BLOCK) (others : DifferAt BLOCK p old new) where
+module _ (p : ℕ) (old new : ℕ → ℕ) (there : p < PAGE) (others : DifferAt PAGE p old new) where
   -- up to there the same places are marked
   pub rank_before : (q : ℕ) → q ≤ p → rank new q ≡ rank old q
   rank_before zero below = rank_first new ∙ sym (rank_first old)
@@ -130,7 +127,7 @@ module _ (p : ℕ) (old new : ℕ → ℕ) (there : p < BLOCK) (others : DifferA
       omega (arith, rank_next new q, rank_next old q, rank_before q (omega (arith, below)), others q (omega (arith, below, there)) (λ e. omega (arith, e, below)))
 
   -- and from there on one more, where the place is marked that wasn't
-  pub rank_behind : (k : ℕ) → old p ≡ 0 → new p ≡ 1 → suc (p + k) ≤ BLOCK → rank new (suc (p + k)) ≡ rank old (suc (p + k)) + 1
+  pub rank_behind : (k : ℕ) → old p ≡ 0 → new p ≡ 1 → suc (p + k) ≤ PAGE → rank new (suc (p + k)) ≡ rank old (suc (p + k)) + 1
   rank_behind zero was is within =
       let first : p + 0 ≡ p = omega arith in
       ap (λ n. rank new (suc n)) first ∙ omega (arith, rank_next new p, rank_next old p, was, is, rank_before p (omega arith))
@@ -141,23 +138,23 @@ module _ (p : ℕ) (old new : ℕ → ℕ) (there : p < BLOCK) (others : DifferA
       ∙ omega (arith, rank_next new (suc (p + k)), rank_next old (suc (p + k)), rank_behind k was is (omega (arith, within)), others (suc (p + k)) (omega (arith, within)) (λ e. omega (arith, e)))
       ∙ ap (λ n. rank old (suc n) + 1) (sym next)
 
-  pub rank_after : (q : ℕ) → old p ≡ 0 → new p ≡ 1 → p < q → q ≤ BLOCK → rank new q ≡ rank old q + 1
+  pub rank_after : (q : ℕ) → old p ≡ 0 → new p ≡ 1 → p < q → q ≤ PAGE → rank new q ≡ rank old q + 1
   rank_after q was is above within =
       let on : q ≡ suc (p + (q - suc p)) = omega (arith, above) in
       ap (rank new) on ∙ rank_behind (q - suc p) was is (omega (arith, on, within)) ∙ ap (λ n. rank old n + 1) (sym on)
 
 -- a value that is put at a marked place
-pub value_changed : (marks : ℕ → ℕ) (values : List ℤ) (p : ℕ) (v : ℤ) → AreMarked BLOCK marks values → p < BLOCK → 0 < marks p
+pub value_changed : (marks : ℕ → ℕ) (values : List ℤ) (p : ℕ) (v : ℤ) → AreMarked PAGE marks values → p < PAGE → 0 < marks p
     → at_page (of_marks marks (slice_set values (rank marks p) v)) ≡ with_at p v (at_page (of_marks marks values))
-value_changed marks values p v kept there is = λ i q. by q (cases_eq p q) (cases_lt q BLOCK) (either marks q) i where
+value_changed marks values p v kept there is = λ i q. by q (cases_eq p q) (cases_lt q PAGE) (either marks q) i where
   new : List ℤ
   new = slice_set values (rank marks p) v
 
-  by : (q : ℕ) → (p ≡ q) ⊎ (p ≢ q) → (q < BLOCK) ⊎ (BLOCK ≤ q) → (marks q ≡ 0) ⊎ (0 < marks q)
+  by : (q : ℕ) → (p ≡ q) ⊎ (p ≢ q) → (q < PAGE) ⊎ (PAGE ≤ q) → (marks q ≡ 0) ⊎ (0 < marks q)
       → at_page (of_marks marks new) q ≡ with_at p v (at_page (of_marks marks values)) q
   by q (inl same) _ _ =
       ap (at_page (of_marks marks new)) (sym same) ∙ at_within marks new p there ∙ marked_value marks new p is
-      ∙ ap Some (get_or-set_same values (rank marks p) v (pos 0) (omega (arith, kept, rank_over marks p BLOCK there is)))
+      ∙ ap Some (get_or-set_same values (rank marks p) v (pos 0) (omega (arith, kept, rank_over marks p PAGE there is)))
       ∙ sym (here p v (at_page (of_marks marks values)) q same)
   by q (inr differs) (inr behind) _ =
       at_behind marks new q behind ∙ sym (at_behind marks values q behind) ∙ sym (elsewhere p v (at_page (of_marks marks values)) q differs)
@@ -174,9 +171,9 @@ value_changed marks values p v kept there is = λ i q. by q (cases_eq p q) (case
       apart (inr below) e = omega (arith, rank_over marks q p (omega (arith, below, differs)) marked, e)
 
 -- a value that is put at a place that wasn't marked
-pub value_added : (old new : ℕ → ℕ) (values : List ℤ) (p : ℕ) (v : ℤ) → AreMarked BLOCK old values → p < BLOCK → DifferAt BLOCK p old new → old p ≡ 0 → new p ≡ 1
+pub value_added : (old new : ℕ → ℕ) (values : List ℤ) (p : ℕ) (v : ℤ) → AreMarked PAGE old values → p < PAGE → DifferAt PAGE p old new → old p ≡ 0 → new p ≡ 1
     → at_page (of_marks new (insert values (rank old p) v)) ≡ with_at p v (at_page (of_marks old values))
-value_added old new values p v kept there others was is = λ i q. by q (cases_eq p q) (cases_lt q BLOCK) (cases_lt q p) (either old q) i where
+value_added old new values p v kept there others was is = λ i q. by q (cases_eq p q) (cases_lt q PAGE) (cases_lt q p) (either old q) i where
   r : ℕ
   r = rank old p
 
@@ -184,9 +181,9 @@ value_added old new values p v kept there others was is = λ i q. by q (cases_eq
   added = insert values r v
 
   fits : r ≤ length values
-  fits = omega (arith, kept, rank_le old p BLOCK (omega (arith, there)))
+  fits = omega (arith, kept, rank_le old p PAGE (omega (arith, there)))
 
-  by : (q : ℕ) → (p ≡ q) ⊎ (p ≢ q) → (q < BLOCK) ⊎ (BLOCK ≤ q) → (q < p) ⊎ (p ≤ q) → (old q ≡ 0) ⊎ (0 < old q)
+  by : (q : ℕ) → (p ≡ q) ⊎ (p ≢ q) → (q < PAGE) ⊎ (PAGE ≤ q) → (q < p) ⊎ (p ≤ q) → (old q ≡ 0) ⊎ (0 < old q)
       → at_page (of_marks new added) q ≡ with_at p v (at_page (of_marks old values)) q
   by q (inl same) _ _ _ =
       ap (at_page (of_marks new added)) (sym same) ∙ at_within new added p there ∙ marked_value new added p (omega (arith, is))
@@ -209,11 +206,11 @@ value_added old new values p v kept there others was is = λ i q. by q (cases_eq
       ∙ sym (at_within old values q within) ∙ sym (elsewhere p v (at_page (of_marks old values)) q differs)
 
 -- as many values as marks stand then
-pub added_kept : (old new : ℕ → ℕ) (values : List ℤ) (p : ℕ) (v : ℤ) → AreMarked BLOCK old values → p < BLOCK → DifferAt BLOCK p old new → old p ≡ 0 → new p ≡ 1
-    → AreMarked BLOCK new (insert values (rank old p) v)
+pub added_kept : (old new : ℕ → ℕ) (values : List ℤ) (p : ℕ) (v : ℤ) → AreMarked PAGE old values → p < PAGE → DifferAt PAGE p old new → old p ≡ 0 → new p ≡ 1
+    → AreMarked PAGE new (insert values (rank old p) v)
 added_kept old new values p v kept there others was is =
-    length-insert values (rank old p) v (omega (arith, kept, rank_le old p BLOCK (omega (arith, there)))) ∙ ap (λ n. n + 1) kept
-    ∙ sym (rank_after p old new there others BLOCK was is there (omega arith))
+    length-insert values (rank old p) v (omega (arith, kept, rank_le old p PAGE (omega (arith, there)))) ∙ ap (λ n. n + 1) kept
+    ∙ sym (rank_after p old new there others PAGE was is there (omega arith))
 
 -- a choice by a test
 pub chosen_here : (p q : ℕ) (value : Option ℤ) (written : ℕ → Option ℤ) → p ≡ q → changed_at p value written q ≡ value
@@ -223,9 +220,9 @@ pub chosen_elsewhere : (p q : ℕ) (value : Option ℤ) (written : ℕ → Optio
 chosen_elsewhere p q value written differs = ap (λ (b : Bool). if b then value else written q) (ne_eqb p q differs)
 
 -- a value that is forgotten
-pub value_forgotten : (old new : ℕ → ℕ) (values : List ℤ) (p : ℕ) → AreMarked BLOCK old values → p < BLOCK → DifferAt BLOCK p old new → old p ≡ 1 → new p ≡ 0
+pub value_forgotten : (old new : ℕ → ℕ) (values : List ℤ) (p : ℕ) → AreMarked PAGE old values → p < PAGE → DifferAt PAGE p old new → old p ≡ 1 → new p ≡ 0
     → (q : ℕ) → at_page (of_marks new (remove values (rank old p))) q ≡ changed_at p None (at_page (of_marks old values)) q
-value_forgotten old new values p kept there others was is = λ q. by q (cases_eq p q) (cases_lt q BLOCK) (cases_lt q p) (either old q) where
+value_forgotten old new values p kept there others was is = λ q. by q (cases_eq p q) (cases_lt q PAGE) (cases_lt q p) (either old q) where
   r : ℕ
   r = rank old p
 
@@ -233,12 +230,12 @@ value_forgotten old new values p kept there others was is = λ q. by q (cases_eq
   left = remove values r
 
   fits : r < length values
-  fits = omega (arith, kept, rank_over old p BLOCK there (omega (arith, was)))
+  fits = omega (arith, kept, rank_over old p PAGE there (omega (arith, was)))
 
-  back : DifferAt BLOCK p new old
+  back : DifferAt PAGE p new old
   back q within differs = sym (others q within differs)
 
-  by : (q : ℕ) → (p ≡ q) ⊎ (p ≢ q) → (q < BLOCK) ⊎ (BLOCK ≤ q) → (q < p) ⊎ (p ≤ q) → (old q ≡ 0) ⊎ (0 < old q)
+  by : (q : ℕ) → (p ≡ q) ⊎ (p ≢ q) → (q < PAGE) ⊎ (PAGE ≤ q) → (q < p) ⊎ (p ≤ q) → (old q ≡ 0) ⊎ (0 < old q)
       → at_page (of_marks new left) q ≡ changed_at p None (at_page (of_marks old values)) q
   by q (inl same) _ _ _ =
       ap (at_page (of_marks new left)) (sym same) ∙ at_within new left p there ∙ unmarked new left p is
@@ -260,14 +257,14 @@ value_forgotten old new values p kept there others was is = λ q. by q (cases_eq
       ∙ ap (λ n. where_marked (old q) (get_or values n (pos 0))) (sym (rank_after p new old there back q is was (omega (arith, above, differs)) (omega (arith, within))))
       ∙ sym (at_within old values q within) ∙ sym (chosen_elsewhere p q None (at_page (of_marks old values)) differs)
 
-pub forgotten_kept : (old new : ℕ → ℕ) (values : List ℤ) (p : ℕ) → AreMarked BLOCK old values → p < BLOCK → DifferAt BLOCK p old new → old p ≡ 1 → new p ≡ 0
-    → AreMarked BLOCK new (remove values (rank old p))
+pub forgotten_kept : (old new : ℕ → ℕ) (values : List ℤ) (p : ℕ) → AreMarked PAGE old values → p < PAGE → DifferAt PAGE p old new → old p ≡ 1 → new p ≡ 0
+    → AreMarked PAGE new (remove values (rank old p))
 forgotten_kept old new values p kept there others was is =
     omega (
       arith,
       kept,
-      length-remove values (rank old p) (omega (arith, kept, rank_over old p BLOCK there (omega (arith, was)))),
-      rank_after p new old there (λ q within differs. sym (others q within differs)) BLOCK is was there (omega arith),
+      length-remove values (rank old p) (omega (arith, kept, rank_over old p PAGE there (omega (arith, was)))),
+      rank_after p new old there (λ q within differs. sym (others q within differs)) PAGE is was there (omega arith),
     )
 
 -- a place that keeps what it has
@@ -290,14 +287,20 @@ is_none mark b few is fails = by (cases_lt mark 1) where
       absurd (false≢true (sym fails ∙ is ∙ eq-eqb mark 1 one))
 
 -- where no place from this one on is marked, as many marked places lie below it as below each place behind it
-rank_stays : (marks : ℕ → ℕ) (p k : ℕ) → ((q : ℕ) → p ≤ q → q < BLOCK → marks q ≡ 0) → p + k ≤ BLOCK → rank marks (p + k) ≡ rank marks p
+rank_stays : (marks : ℕ → ℕ) (p k : ℕ) → ((q : ℕ) → p ≤ q → q < PAGE → marks q ≡ 0) → p + k ≤ PAGE → rank marks (p + k) ≡ rank marks p
 rank_stays marks p zero none within = let same : p + 0 ≡ p = omega arith in ap (rank marks) same
 rank_stays marks p (suc k) none within =
     let next : p + suc k ≡ suc (p + k) = omega arith in
     ap (rank marks) next
     ∙ omega (arith, rank_next marks (p + k), none (p + k) (omega arith) (omega (arith, within)), rank_stays marks p k none (omega (arith, within)))
 
-pub rank_last : (marks : ℕ → ℕ) (p : ℕ) → p ≤ BLOCK → ((q : ℕ) → p ≤ q → q < BLOCK → marks q ≡ 0) → rank marks p ≡ rank marks BLOCK
+pub rank_last : (marks : ℕ → ℕ) (p : ℕ) → p ≤ PAGE → ((q : ℕ) → p ≤ q → q < PAGE → marks q ≡ 0) → rank marks p ≡ rank marks PAGE
 rank_last marks p there none =
-    let on : p + (BLOCK - p) ≡ BLOCK = omega (arith, there) in
-    sym (rank_stays marks p (BLOCK - p) none (omega (arith, on))) ∙ ap (rank marks) on
+    let on : p + (PAGE - p) ≡ PAGE = omega (arith, there) in
+    sym (rank_stays marks p (PAGE - p) none (omega (arith, on))) ∙ ap (rank marks) on
+
+-- before the value of the last marked place stand all others
+pub position_last : (marks : ℕ → ℕ) (p : ℕ) → p < PAGE → marks p ≡ 1 → ((q : ℕ) → p + 1 ≤ q → q < PAGE → marks q ≡ 0) → rank marks PAGE ≡ rank marks p + 1
+position_last marks p there is none =
+    let next : p + 1 ≡ suc p = omega arith in
+    sym (rank_last marks (p + 1) (omega (arith, there)) none) ∙ ap (rank marks) next ∙ omega (arith, rank_next marks p, is)

@@ -1,17 +1,14 @@
 -- One page of a sparse array that is changed, and an array under it.
-use Rattle.std.proofs.Common.{◌≡◌, ◌<◌, ◌≤◌, ◌+◌, ◌*◌, ◌/◌, ◌%◌, ◌==◌, ℕ, if◌then◌else◌, Bool, true, false, ℤ, List, [], length, slice_index_or, slice_set, Option, None, refl, sym, ap, ◌∙◌, arith, ◌⊎◌, inl, inr}
+use Rattle.std.proofs.Common.{◌≡◌, ◌<◌, ◌≤◌, ◌+◌, ◌*◌, ◌/◌, ◌%◌, ◌==◌, ℕ, if◌then◌else◌, true, false, ℤ, List, [], length, slice_index_or, slice_set, Option, None, refl, sym, ap, ◌∙◌, arith, ◌⊎◌, inl, inr}
 use Rattle.std.specs.Option.{unwrap_or}
 use Rattle.std.proofs.lemmas.Bool.{cases_eq, eq-eqb, ne_eqb}
 use Rattle.std.proofs.lemmas.Nat.{div-add-mod'}
 use Rattle.std.proofs.lemmas.List.{get_or_past}
 use Rattle.nona_sparse.specs.declared.page.TheConstants.{PAGE}
 use Rattle.nona_sparse.specs.Sparse.{at_page, at, cell, cells_under, change_at, changes_on, of_page, off_page, on_page}
+use Rattle.nona_sparse.proofs.Choosing.{pick}
 use Rattle.nona_sparse.proofs.Leaving.{none_changed}
 use Rattle.nona_sparse.proofs.Placing.{each_under, in_page, in_other}
-
--- a choice by a test
-pick : (b c : Bool) (x y : Option ℤ) → b ≡ c → (if b then x else y) ≡ (if c then x else y)
-pick b c x y is = ap (λ (t : Bool). if t then x else y) is
 
 -- behind the pages no place has a value
 past_pages : (pages : List (List (Option ℤ))) (index q : ℕ) → length pages ≤ index → q / PAGE ≡ index → at pages q ≡ None
@@ -25,11 +22,11 @@ page_kept pages index page cells within left = λ i q. by q (cases_eq (q / PAGE)
   by : (q : ℕ) → (q / PAGE ≡ index) ⊎ (q / PAGE ≡ index → ⊥) → at (slice_set pages index page) q ≡ changes_on index cells (at pages) q
   by q (inl is) =
       let whole : index * PAGE + q % PAGE ≡ q = ap (λ n. n * PAGE + q % PAGE) (sym is) ∙ div-add-mod' q PAGE in
-      in_page PAGE pages index page q within is ∙ left (q % PAGE)
+      in_page pages index page q within is ∙ left (q % PAGE)
       ∙ (λ j. change_at cells (whole j) (at_page (slice_index_or pages (sym is j) []) (q % PAGE)))
       ∙ sym (pick (q / PAGE == index) true (change_at cells q (at pages q)) (at pages q) (eq-eqb (q / PAGE) index is))
   by q (inr differs) =
-      in_other PAGE pages index page q differs
+      in_other pages index page q differs
       ∙ sym (pick (q / PAGE == index) false (change_at cells q (at pages q)) (at pages q) (ne_eqb (q / PAGE) index differs))
 
 -- of a page that isn't there nothing is left
@@ -48,10 +45,10 @@ pub page_gone : (pages : List (List (Option ℤ))) (index : ℕ) (page : List (O
 page_gone pages index page within none = λ i q. by q (cases_eq (q / PAGE) index) i where
   by : (q : ℕ) → (q / PAGE ≡ index) ⊎ (q / PAGE ≡ index → ⊥) → at (slice_set pages index page) q ≡ off_page index (at pages) q
   by q (inl is) =
-      in_page PAGE pages index page q within is ∙ none (q % PAGE)
+      in_page pages index page q within is ∙ none (q % PAGE)
       ∙ sym (pick (q / PAGE == index) true None (at pages q) (eq-eqb (q / PAGE) index is))
   by q (inr differs) =
-      in_other PAGE pages index page q differs ∙ sym (pick (q / PAGE == index) false None (at pages q) (ne_eqb (q / PAGE) index differs))
+      in_other pages index page q differs ∙ sym (pick (q / PAGE == index) false None (at pages q) (ne_eqb (q / PAGE) index differs))
 
 -- nor has one that isn't there
 pub none_gone : (pages : List (List (Option ℤ))) (index : ℕ) → length pages ≤ index → at pages ≡ off_page index (at pages)

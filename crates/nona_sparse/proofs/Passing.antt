@@ -1,26 +1,14 @@
 -- Values of a group that are gone over in order, with the marks of those that are left.
-use Rattle.std.proofs.Common.{◌≡◌, ◌≢◌, ◌<◌, ◌≤◌, ◌+◌, ℕ, zero, suc, nat_lt, Bool, true, false, if◌then◌else◌, ℤ, pos, List, length, map, get_or, None, Some, refl, sym, ap, ◌∙◌, arith, ◌⊎◌, inl, inr}
+use Rattle.std.proofs.Common.{Bool, ◌≡◌, ◌≢◌, ◌<◌, ◌≤◌, ◌+◌, ℕ, zero, suc, nat_lt, if◌then◌else◌, ℤ, pos, List, length, map, get_or, None, Some, sym, ap, ◌∙◌, arith, ◌⊎◌, inl, inr}
 use Rattle.std.specs.Int.{bit_at}
 use Rattle.std.proofs.lemmas.Bool.{cases_eq, cases_lt, lt-ltb, le-ltb}
 use Rattle.std.proofs.lemmas.List.{get_or-map}
 use Rattle.std.proofs.lemmas.Nat.Bits.{bit_at-zero, bit_at_ones}
 use Rattle.nona_sparse.specs.declared.group.TheConstants.{GROUP}
 use Rattle.nona_sparse.specs.Marks.{AreBehind, AreMarked, DifferAt, rank, value_at}
-use Rattle.nona_sparse.specs.Sparse.{at_page, change_at}
-use Rattle.nona_sparse.proofs.Marking.{bit_few, either, marked_value, rank_first, rank_next, rank_over, unmarked}
-use Rattle.nona_sparse.proofs.Leaving.{none_changed}
-
-pick_true : (b : Bool) (x y : ℕ) → b ≡ true → (if b then x else y) ≡ x
-pick_true true x y h = refl
-pick_true false x y h = cc
-
-pick_false : (b : Bool) (x y : ℕ) → b ≡ false → (if b then x else y) ≡ y
-pick_false true x y h = cc
-pick_false false x y h = refl
-
-same_either : (b : Bool) (x : ℕ) → (if b then x else x) ≡ x
-same_either true x = refl
-same_either false x = refl
+use Rattle.nona_sparse.specs.Sparse.{at_page, change_at, if_left}
+use Rattle.nona_sparse.proofs.Choosing.{pick_true, pick_false, same_either}
+use Rattle.nona_sparse.proofs.Marking.{bit_few, either, marked_value, rank_first, rank_next, rank_over}
 
 -- a mark of a value that is done is gone
 gone : (marks : ℕ → ℕ) (done : ℕ) (rest : ℕ → ℕ) (q : ℕ) → AreBehind marks done rest → q < GROUP → rank marks q < done → rest q ≡ 0
@@ -107,21 +95,15 @@ none_left marks rest values done q kept behind all within = by (either marks q) 
   by (inl clear) (inr above) = stays marks done rest q behind within above ∙ clear
   by (inr set) (inr above) = absurd (omega (arith, rank_over marks q GROUP within set, kept, all, above))
 
--- a place that isn't marked has nothing that differs
-pub unmarked_same : (marks : ℕ → ℕ) (values cells : List ℤ) (at q : ℕ) → marks q ≡ 0 → change_at cells at (value_at marks values q) ≡ value_at marks values q
-unmarked_same marks values cells at q clear =
-    let none : value_at marks values q ≡ None = unmarked marks values q clear in
-    ap (change_at cells at) none ∙ none_changed cells at ∙ sym none
-
--- one more value differs
-pub next_differs : (first p : ℕ) (rest new marks : ℕ → ℕ) (values cells : List ℤ) → DifferAt GROUP p rest new
-    → ((q : ℕ) → q < GROUP → rest q ≡ 0 → change_at cells (first + q) (value_at marks values q) ≡ value_at marks values q)
-    → change_at cells (first + p) (value_at marks values p) ≡ value_at marks values p
-    → (q : ℕ) → q < GROUP → new q ≡ 0 → change_at cells (first + q) (value_at marks values q) ≡ value_at marks values q
-next_differs first p rest new marks values cells others each this = λ q within clear. by q within clear (cases_eq p q) where
-  by : (q : ℕ) → q < GROUP → new q ≡ 0 → (p ≡ q) ⊎ (p ≢ q) → change_at cells (first + q) (value_at marks values q) ≡ value_at marks values q
+-- one more value differs, or is the same
+pub next_is : (left : Bool) (first p : ℕ) (rest new marks : ℕ → ℕ) (values cells : List ℤ) → DifferAt GROUP p rest new
+    → ((q : ℕ) → q < GROUP → rest q ≡ 0 → change_at cells (first + q) (value_at marks values q) ≡ if_left left (value_at marks values q))
+    → change_at cells (first + p) (value_at marks values p) ≡ if_left left (value_at marks values p)
+    → (q : ℕ) → q < GROUP → new q ≡ 0 → change_at cells (first + q) (value_at marks values q) ≡ if_left left (value_at marks values q)
+next_is left first p rest new marks values cells others each this = λ q within clear. by q within clear (cases_eq p q) where
+  by : (q : ℕ) → q < GROUP → new q ≡ 0 → (p ≡ q) ⊎ (p ≢ q) → change_at cells (first + q) (value_at marks values q) ≡ if_left left (value_at marks values q)
   by q within clear (inl same) =
-      ap (λ n. change_at cells (first + n) (value_at marks values n)) (sym same) ∙ this ∙ ap (value_at marks values) same
+      ap (λ n. change_at cells (first + n) (value_at marks values n)) (sym same) ∙ this ∙ ap (λ n. if_left left (value_at marks values n)) same
   by q within clear (inr differs) = each q within (sym (others q within (λ e. differs (sym e))) ∙ clear)
 
 -- where all places are marked, as many lie below a place as its number says

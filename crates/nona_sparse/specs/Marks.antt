@@ -1,11 +1,10 @@
--- The values of a block: a mark for each place that has one, and the values in order of place.
+-- The values of a page: a mark for each place that has one, and the values in order of place.
 use Rattle.std.specs.Prelude.{◌≡◌, ◌≢◌, ◌<◌, ◌≤◌, nat_lt, ℕ, zero, suc, ◌+◌, ◌/◌, ◌%◌, ◌==◌, if◌then◌else◌, ℤ, pos, List, [], ◌∷◌, ◌++◌, length, slice_index_or, None, Some}
 use Rattle.std.specs.declared.option.Option.{Option}
 use Rattle.std.specs.Int.{bit_at}
 use Rattle.nona_sparse.specs.declared.group.TheConstants.{GROUP}
-use Rattle.nona_sparse.specs.declared.block.TheConstants.{BLOCK, WORDS}
+use Rattle.nona_sparse.specs.declared.block.TheConstants.{WORDS}
 use Rattle.nona_sparse.specs.declared.page.TheConstants.{PAGE}
-use Rattle.nona_sparse.specs.Sparse.{at_parts}
 
 -- how many places below this one are marked
 unfoldable pub rank : (ℕ → ℕ) → ℕ → ℕ
@@ -41,22 +40,26 @@ AreBehind marks done rest = (q : ℕ) → q < GROUP → rest q ≡ (if nat_lt (r
 abbrev pub mark_in : List ℕ → ℕ → ℕ
 mark_in groups place = bit_at (slice_index_or groups (place / GROUP) 0) (place % GROUP)
 
--- there are as many groups as a block has, and as many values as places of theirs are marked
+-- there are as many groups as a page has, and as many values as places of theirs are marked
 abbrev pub AreMarkedIn : List ℕ → List ℤ → Type 0
-AreMarkedIn groups values = (length groups ≡ WORDS) × AreMarked BLOCK (mark_in groups) values
+AreMarkedIn groups values = (length groups ≡ WORDS) × AreMarked PAGE (mark_in groups) values
 
--- no place of a block from this one on is marked
+-- no place of a page from this one on is marked
 abbrev pub IsEnd : ℕ → List ℕ → Type 0
-IsEnd end groups = (q : ℕ) → end ≤ q → q < BLOCK → mark_in groups q ≡ 0
+IsEnd end groups = (q : ℕ) → end ≤ q → q < PAGE → mark_in groups q ≡ 0
 
 -- what stands at each place below this one
 unfoldable pub up_to : ℕ → (ℕ → Option ℤ) → List (Option ℤ)
 up_to zero written = []
 up_to (suc n) written = up_to n written ++ written n ∷ []
 
--- what stands at each place of a block with these marks and values
+-- what stands at each place of a page with these marks and values
+abbrev pub of_marks : (ℕ → ℕ) → List ℤ → List (Option ℤ)
+of_marks marks values = up_to PAGE (value_at marks values)
+
+-- the same, where each group's marks are the bits of a number
 abbrev pub block_of : List ℕ → List ℤ → List (Option ℤ)
-block_of groups values = up_to BLOCK (value_at (mark_in groups) values)
+block_of groups values = of_marks (mark_in groups) values
 
 -- one of two values by a mark: the first where it isn't set
 abbrev pub by_mark : ℕ → Option ℤ → Option ℤ → Option ℤ
@@ -67,6 +70,7 @@ by_mark (suc mark) unmarked marked = marked
 abbrev pub changed_at : ℕ → Option ℤ → (ℕ → Option ℤ) → ℕ → Option ℤ
 changed_at place value written q = if place == q then value else written q
 
--- what stands at each place of a page of these blocks
-abbrev pub page_of : List (List (Option ℤ)) → List (Option ℤ)
-page_of blocks = up_to PAGE (at_parts BLOCK blocks)
+-- what stands on a page: nothing where it has no block
+abbrev pub page_of : {B : Type 0} → (B → List (Option ℤ)) → Option B → List (Option ℤ)
+page_of block None = []
+page_of block (Some b) = block b

@@ -1,31 +1,22 @@
 -- What stands at the places of a sparse array, and an array under it.
-use Rattle.std.specs.Prelude.{ℕ, suc, ◌/◌, ◌%◌, ◌==◌, nat_lt, if◌then◌else◌, ℤ, pos, List, [], ◌∷◌, length, slice_index_or, None, Some}
+use Rattle.std.specs.Prelude.{ℕ, suc, ◌/◌, ◌%◌, ◌==◌, nat_lt, Bool, if◌then◌else◌, ℤ, pos, List, [], ◌∷◌, length, slice_index_or, None, Some}
 use Rattle.std.specs.declared.option.Option.{Option}
 use Rattle.std.specs.Option.{unwrap_or}
 use Rattle.std.specs.Ordering.{int_eq}
 use Rattle.nona_sparse.specs.declared.group.TheConstants.{GROUP}
-use Rattle.nona_sparse.specs.declared.block.TheConstants.{BLOCK}
 use Rattle.nona_sparse.specs.declared.page.TheConstants.{PAGE}
 
 -- the value at a place of a page, where one is
 abbrev pub at_page : List (Option ℤ) → ℕ → Option ℤ
 at_page page place = slice_index_or page place None
 
--- the value at a place of parts that have so many places each, where one is
-abbrev pub at_parts : ℕ → List (List (Option ℤ)) → ℕ → Option ℤ
-at_parts size parts place = at_page (slice_index_or parts (place / size) []) (place % size)
-
 -- the value at a place of the pages, where one is
 abbrev pub at : List (List (Option ℤ)) → ℕ → Option ℤ
-at pages place = at_parts PAGE pages place
+at pages place = at_page (slice_index_or pages (place / PAGE) []) (place % PAGE)
 
 -- the value that the page with this index has at a place of the array, where it has one
 abbrev pub of_page : ℕ → List (Option ℤ) → ℕ → Option ℤ
 of_page index page place = if place / PAGE == index then at_page page (place % PAGE) else None
-
--- the value that the block with this index has at a place of the array, where it has one
-abbrev pub of_block : ℕ → List (Option ℤ) → ℕ → Option ℤ
-of_block index block place = if place / BLOCK == index then at_page block (place % BLOCK) else None
 
 -- the value that the group with this index has at a place of the array, where it has one
 abbrev pub of_group : ℕ → (ℕ → Option ℤ) → ℕ → Option ℤ
@@ -51,6 +42,10 @@ changed was (Some v) = if int_eq v was then None else Some v
 -- what is left of a written value beside these cells: nothing where the cell at its place has it already
 abbrev pub change_at : List ℤ → ℕ → Option ℤ → Option ℤ
 change_at cells place written = if nat_lt place (length cells) then changed (cell cells place) written else written
+
+-- a written value where it is left, and nothing where it isn't
+abbrev pub if_left : Bool → Option ℤ → Option ℤ
+if_left left written = if left then written else None
 
 -- what is left of all written values beside these cells
 abbrev pub changes : List ℤ → (ℕ → Option ℤ) → ℕ → Option ℤ

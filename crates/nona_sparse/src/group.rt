@@ -1,8 +1,9 @@
-ghost use Rattle.std.specs.Prelude.{◌≡◌, ◌==◌, ◌<◌, ◌≤◌, ◌+◌, ◌*◌, ℕ, true, pos, length, slice_index_or, map, Some, All, FitsSigned};
+ghost use Rattle.std.specs.Prelude.{◌≡◌, ◌==◌, ◌<◌, ◌≤◌, ◌+◌, ◌*◌, ℕ, true, pos};
+ghost use Rattle.std.specs.Prelude.{length, slice_index_or, map, Some, All, FitsSigned};
 ghost use Rattle.std.specs.Int.{w64, bit_at};
 ghost use Rattle.std.specs.Option.{unwrap_or};
 ghost use Rattle.nona_sparse.specs.Marks.{AreMarked, DifferAt, IsLowest, rank, value_at};
-ghost use Rattle.nona_sparse.specs.Sparse.{at_page, cell, change_at, of_group, only_at};
+ghost use Rattle.nona_sparse.specs.Sparse.{at_page, cell, change_at, if_left, of_group, only_at};
 
 /// How many places a group has: as many as there are bits in its marks.
 pub const GROUP: usize = 64;
@@ -89,37 +90,38 @@ pub fn left_of(written: Option<i64>, cells: &[i64], place: usize) -> Option<i64>
 }
 
 // Whether each value of a group whose places are all marked is another one than the array's cell at its place, which stands behind
-// `first`.
-fn full_differs(values: &[i64], first: usize, cells: &[i64]) -> bool
+// `first`, or, where `differ` is false, each the same one.
+fn full_are(values: &[i64], first: usize, cells: &[i64], differ: bool) -> bool
     requires full { length values.now ≡ GROUP }
     requires first { first ≤ GROUPS * GROUP }
-    ensures { result ≡ true → (q : ℕ) → q < GROUP → change_at cells.now (first + q) (at_page (map Some values.now) q) ≡ at_page (map Some values.now) q }
+    ensures { result ≡ true → (q : ℕ) → q < GROUP
+        → change_at cells.now (first + q) (at_page (map Some values.now) q) ≡ if_left differ (at_page (map Some values.now) q) }
 {
     'places: for place in 0..GROUP {
         let value = value_behind(values, place);
-        if let None = left_of(Some(value), cells, first + place) {
+        if left_of(Some(value), cells, first + place).is_some() != differ {
             return false;
         }
     }
     true
 }
 
-/// Whether each of a group's values is another one than the array's cell at its place, which stands behind `first`. Takes a time in
-/// proportion to the values.
-pub fn all_differ(marks: u64, values: &[i64], first: usize, cells: &[i64]) -> bool
+/// Whether each of a group's values is another one than the array's cell at its place, which stands behind `first`, or, where `differ`
+/// is false, each the same one. Takes a time in proportion to the values.
+pub fn all_are(marks: u64, values: &[i64], first: usize, cells: &[i64], differ: bool) -> bool
     requires kept { AreMarked GROUP (bit_at marks) values.now }
     requires first { first ≤ GROUPS * GROUP }
     ensures { result ≡ true → (q : ℕ) → q < GROUP
-        → change_at cells.now (first + q) (value_at (bit_at marks) values.now q) ≡ value_at (bit_at marks) values.now q }
+        → change_at cells.now (first + q) (value_at (bit_at marks) values.now q) ≡ if_left differ (value_at (bit_at marks) values.now q) }
 {
     if marks == u64::MAX {
-        return full_differs(values, first, cells);
+        return full_are(values, first, cells, differ);
     }
     let mut rest = marks;
     'values: for done in 0..values.len() {
         let place = lowest(rest);
         let value = value_behind(values, done);
-        if let None = left_of(Some(value), cells, first + place) {
+        if left_of(Some(value), cells, first + place).is_some() != differ {
             return false;
         }
         rest = without_lowest(rest);
@@ -145,7 +147,8 @@ fn write_full(values: &[i64], index: usize, cells: &mut [i64])
     requires full { length values.now ≡ GROUP }
     requires index { index < GROUPS }
     ensures long { length cells.new ≡ length cells.old }
-    ensures cells { (q : ℕ) → q < length cells.old → cell cells.new q ≡ unwrap_or (of_group index (at_page (map Some values.now)) q) (cell cells.old q) }
+    ensures cells { (q : ℕ) → q < length cells.old
+        → cell cells.new q ≡ unwrap_or (of_group index (at_page (map Some values.now)) q) (cell cells.old q) }
     ensures numbers { All (FitsSigned w64) cells.old → All (FitsSigned w64) cells.new }
 {
     'places: for place in 0..GROUP {
@@ -159,7 +162,8 @@ pub fn write_values(marks: u64, values: &[i64], index: usize, cells: &mut [i64])
     requires kept { AreMarked GROUP (bit_at marks) values.now }
     requires index { index < GROUPS }
     ensures long { length cells.new ≡ length cells.old }
-    ensures cells { (q : ℕ) → q < length cells.old → cell cells.new q ≡ unwrap_or (of_group index (value_at (bit_at marks) values.now) q) (cell cells.old q) }
+    ensures cells { (q : ℕ) → q < length cells.old
+        → cell cells.new q ≡ unwrap_or (of_group index (value_at (bit_at marks) values.now) q) (cell cells.old q) }
     ensures numbers { All (FitsSigned w64) cells.old → All (FitsSigned w64) cells.new }
 {
     if marks == u64::MAX {

@@ -8,5 +8,6 @@ mod block;
 mod group;
 mod page;
 mod sparse;
+mod values;
 
 pub use sparse::{PLACES, SparseArray};

@@ -1,9 +1,9 @@
 -- One page of what is written on an array, and a store under it.
-use Rattle.std.proofs.Common.{◌≡◌, ◌<◌, ◌≤◌, ◌+◌, ◌/◌, ◌==◌, ◌&&◌, ℕ, nat_lt, Bool, true, false, if◌then◌else◌, ℤ, List, [], length, get_or, set, slice_index_or, slice_set, Option, None, refl, sym, ap, ◌∙◌, arith, ◌⊎◌, inl, inr}
+use Rattle.std.proofs.Common.{◌≡◌, ◌<◌, ◌≤◌, ◌/◌, ◌==◌, ◌&&◌, ℕ, nat_lt, Bool, true, false, if◌then◌else◌, ℤ, List, [], length, get_or, set, slice_index_or, slice_set, Option, None, refl, sym, ap, ◌∙◌, arith, ◌⊎◌, inl, inr}
 use Rattle.std.proofs.lemmas.Bool.{cases_eq, eq-eqb, ne_eqb}
 use Rattle.std.proofs.lemmas.List.{ext_get_or, length-set, get_or-set_same, get_or-set_other, get_or_past}
 use Rattle.nona_sparse.specs.declared.page.TheConstants.{PAGE}
-use Rattle.nona_sparse.specs.Sparse.{at, cells_under, change_at, changed, changes_on, off_page, on_page}
+use Rattle.nona_sparse.specs.Sparse.{at, cells_under, change_at, changed, changes_on, on_page}
 use Rattle.nona_sparse.proofs.Leaving.{none_changed}
 use Rattle.nona_tree.specs.Memory.{Memory, cell_at, cells_of}
 use Rattle.nona_store.specs.Arrays.{with_array}

@@ -26,8 +26,6 @@ impl Model for Overlay {
 
 // Adds sparse arrays without values, until there is the one with this id: none where it is there already. Where memory runs out,
 // there may be some more.
-#[cold]
-#[inline(never)]
 fn make_arrays(alloc: Global, arrays: &mut Vec<SparseArray>, id: u32) -> Result<(), AllocError>
     ensures same { over_of arrays.new.items ≡ over_of arrays.old.items }
     ensures there { OnOk result (id < length arrays.new.items) }
@@ -38,17 +36,38 @@ fn make_arrays(alloc: Global, arrays: &mut Vec<SparseArray>, id: u32) -> Result<
     Ok(())
 }
 
-// Adds sparse arrays without values where the one with this id isn't there yet. Where memory runs out, there may be some
-// more.
+// Puts a value on a cell of an array whose sparse array is there. Where memory runs out, each cell has what it had.
 #[inline]
-fn add_arrays(alloc: Global, arrays: &mut Vec<SparseArray>, id: u32) -> Result<(), AllocError>
-    ensures same { over_of arrays.new.items ≡ over_of arrays.old.items }
-    ensures there { OnOk result (id < length arrays.new.items) }
+fn put_there(
+    arrays: &mut Vec<SparseArray>,
+    array: u32,
+    index: usize,
+    value: i64,
+) -> Result<(), AllocError>
+    requires there { array < length arrays.old.items }
+    requires index { index < cell_bound }
+    ensures ok { OnOk result (over_of arrays.new.items ≡ with_cell array index value (over_of arrays.old.items)) }
+    ensures err { OnErr result (over_of arrays.new.items ≡ over_of arrays.old.items) }
 {
-    if (id as usize) < arrays.len() {
-        return Ok(());
-    }
-    make_arrays(alloc, arrays, id)
+    arrays[array as usize].put(index, value)
+}
+
+// Puts a value on a cell of an array whose sparse array isn't there yet. Where memory runs out, each cell has what it had.
+#[cold]
+#[inline(never)]
+fn put_first(
+    alloc: Global,
+    arrays: &mut Vec<SparseArray>,
+    array: u32,
+    index: usize,
+    value: i64,
+) -> Result<(), AllocError>
+    requires index { index < cell_bound }
+    ensures ok { OnOk result (over_of arrays.new.items ≡ with_cell array index value (over_of arrays.old.items)) }
+    ensures err { OnErr result (over_of arrays.new.items ≡ over_of arrays.old.items) }
+{
+    make_arrays(alloc, arrays, array)?;
+    put_there(arrays, array, index, value)
 }
 
 // Leaves of the written values those that the arrays' cells don't have.
@@ -81,14 +100,17 @@ impl Overlay {
     /// Puts a value on the cell at this place of the array with this id, in place of one that was there. Takes constant time, but
     /// where places have to be made for it: as many as there are arrays up to this one, and those of `SparseArray::put`, which are
     /// there from then on. Where memory runs out, each cell has what it had.
+    #[inline]
     pub fn put(&mut self, array: u32, index: usize, value: i64) -> Result<(), AllocError>
         requires { index < cell_bound }
         ensures ok { OnOk result (over_of self.new ≡ with_cell array index value (over_of self.old)) }
         ensures err { OnErr result (over_of self.new ≡ over_of self.old) }
     {
+        if (array as usize) < self.arrays.len() {
+            return put_there(&mut self.arrays, array, index, value);
+        }
         let alloc = *self.arrays.allocator();
-        add_arrays(alloc, &mut self.arrays, array)?;
-        self.arrays[array as usize].put(index, value)
+        put_first(alloc, &mut self.arrays, array, index, value)
     }
 
     /// The value that was put on the cell at this place of the array with this id, if any was. Takes constant time.
@@ -127,7 +149,7 @@ impl Overlay {
     }
 
     /// Forgets each value, on the page of this array with this index, that the store's cell at its place has already. The array is one
-    /// of the store's. Nothing else changes. Takes no memory, and a time in proportion to the page's blocks and its values.
+    /// of the store's. Nothing else changes. Takes no memory, and a time in proportion to the page's values, and constant beside.
     pub fn keep_page(&mut self, array: usize, index: usize, store: &Store)
         requires { array < length store.now.arrays }
         ensures { over_of self.new ≡ changes_on_page array index store.now (over_of self.old) }

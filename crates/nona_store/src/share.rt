@@ -146,7 +146,7 @@ impl Share {
     }
 
     /// Forgets each written value, on the page with this index of an array of the store, that the store's cell has already. Nothing
-    /// else changes. Takes no memory, and a time in proportion to the page's blocks and the values in them.
+    /// else changes. Takes no memory, and a time in proportion to the page's values, and constant beside.
     pub fn keep_page(&mut self, array: usize, index: usize, store: &Store)
         requires { array < length store.now.arrays }
         ensures scalars { self.new.scalars ≡ self.old.scalars }
@@ -158,7 +158,7 @@ impl Share {
     }
 
     /// Moves the written values, on the page with this index of an array of the store, into the store. Nothing else changes. Takes no
-    /// memory, gives back that of the page, and takes a time in proportion to the page's blocks and the values in them.
+    /// memory, gives back that of the page, and takes a time in proportion to the page's values, and constant beside.
     pub fn apply_page(&mut self, array: usize, index: usize, store: &mut Store)
         requires { array < length store.old.arrays }
         ensures scalars { self.new.scalars ≡ self.old.scalars }

@@ -264,8 +264,8 @@ impl Store {
     }
 
     /// Gives each cell that an overlay has, on the page with this index of an array that is there, its value, and forgets these values.
-    /// Nothing else changes. Takes no memory, gives back that of the page, and takes a time in proportion to the page's blocks and the
-    /// values in them.
+    /// Nothing else changes. Takes no memory, gives back that of the page, and takes a time in proportion to the page's values, and
+    /// constant beside.
     pub fn apply_page(&mut self, array: usize, index: usize, overlay: &mut Overlay)
         requires { array < length self.old.arrays }
         ensures store { self.new ≡ under (written_on array index (over_of overlay.old)) self.old }

@@ -1,5 +1,5 @@
 use Rattle.std.proofs.Common.{◌≡◌, ◌∙◌, ap, sym, arith, get_or, pos, w64, Some}
-use Rattle.nona_sparse.specs.declared.block.TheConstants.{BLOCK}
+use Rattle.nona_sparse.specs.declared.page.TheConstants.{PAGE}
 use Rattle.std.proofs.lemmas.Int.{to_z-of_z}
 use Rattle.nona_sparse.specs.Marks.{mark_in}
 use Rattle.nona_sparse.proofs.Grouping.{in_few}
@@ -11,7 +11,7 @@ value_behind-requires c =
     let marks = mark_in c.args.marks.now in
     let place = c.args.place in
     let marked : marks place ≡ 1 = is_one (marks place) c.is_set.result c.is_set.ensures c.if-not-is_set.false in
-    omega (arith, c.rank_in.ensures, c.requires.kept.1, rank_over marks place BLOCK c.requires.there (omega (arith, marked)))
+    omega (arith, c.position.ensures, c.requires.kept.1, rank_over marks place PAGE c.requires.there (omega (arith, marked)))
 
 pub returns : goal.returns
 returns c =
@@ -19,7 +19,7 @@ returns c =
     let place = c.args.place in
     let marked : marks place ≡ 1 = is_one (marks place) c.is_set.result c.is_set.ensures c.if-not-is_set.false in
     ap Some (to_z-of_z w64 c.value_behind.result (record { sfits = c.value_behind.type_inv }))
-    ∙ ap Some (c.value_behind.ensures ∙ ap (λ n. get_or c.args.values.now n (pos 0)) c.rank_in.ensures)
+    ∙ ap Some (c.value_behind.ensures ∙ ap (λ n. get_or c.args.values.now n (pos 0)) c.position.ensures)
     ∙ sym (marked_value marks c.args.values.now place (omega (arith, marked)))
 
 pub returns-then-not-is_set : goal.returns-then-not-is_set

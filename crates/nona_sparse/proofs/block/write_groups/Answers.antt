@@ -2,7 +2,8 @@ use Rattle.std.proofs.Common.{◌≡◌, ◌<◌, ◌∙◌, ◌+◌, ◌*◌, �
 use Rattle.std.specs.Int.{bit_at}
 use Rattle.std.specs.Option.{unwrap_or}
 use Rattle.nona_sparse.specs.declared.group.TheConstants.{GROUP}
-use Rattle.nona_sparse.specs.declared.block.TheConstants.{BLOCK, WORDS}
+use Rattle.nona_sparse.specs.declared.block.TheConstants.{WORDS}
+use Rattle.nona_sparse.specs.declared.page.TheConstants.{PAGE}
 use Rattle.nona_sparse.specs.Marks.{block_of, mark_in, value_at}
 use Rattle.nona_sparse.specs.Sparse.{at_page, cell, of_group}
 use Rattle.nona_sparse.proofs.Grouping.{group_value, group_within, in_few, next_start}
@@ -24,13 +25,13 @@ pub overflow_add-end : goal.overflow_add-end
 overflow_add-end c =
     let marks = c.args.marks.now in
     let group = c.groups.group in
-    record { fits = omega (arith, c.groups.invariant.start, c.count_of.ensures, group_within marks group c.groups-test.true, rank_few (mark_in marks) BLOCK (in_few marks)) }
+    record { fits = omega (arith, c.groups.invariant.start, c.count_of.ensures, group_within marks group c.groups-test.true, rank_few (mark_in marks) PAGE (in_few marks)) }
 
 pub offset_bounds-values-start : goal.offset_bounds-values-start
 offset_bounds-values-start c =
     let marks = c.args.marks.now in
     let group = c.groups.group in
-    record { fits = omega (arith, c.groups.invariant.start, group_within marks group c.groups-test.true, rank_few (mark_in marks) BLOCK (in_few marks)) }
+    record { fits = omega (arith, c.groups.invariant.start, group_within marks group c.groups-test.true, rank_few (mark_in marks) PAGE (in_few marks)) }
 
 pub slice_bounds-own-end : goal.slice_bounds-own-end
 slice_bounds-own-end c = omega (arith, c.groups.invariant.start, c.count_of.ensures, c.requires.kept.1, group_within c.args.marks.now c.groups.group c.groups-test.true)

@@ -6,7 +6,7 @@ use Rattle.nona_sparse.specs.Sparse.{at_page, cell}
 use Rattle.nona_sparse.specs.declared.group.TheConstants.{GROUP}
 use Rattle.nona_sparse.proofs.group.write_full.Given as goal
 
--- the page's places so far are written
+-- the group's places so far are written
 abbrev pub invariant-places : goal.invariant-places
 invariant-places l = record {
   long : length l.cells ≡ length l.initial.cells;

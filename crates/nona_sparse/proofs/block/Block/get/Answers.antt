@@ -8,5 +8,5 @@ pub returns : goal.returns
 returns c =
     let marks = mark_in c.self.inside.marks in
     let place = c.args.place in
-    c.value_of.ensures ∙ ap (λ l. value_at marks l place) c.as_slice.ensures.value
-    ∙ sym (at_within marks c.self.inside.values.items place c.requires) ∙ ap (λ page. at_page page place) c.self.view_is
+    c.value_of.ensures ∙ ap (λ l. value_at marks l place) c.as_slice.ensures
+    ∙ sym (at_within marks c.self.inside.values place c.requires) ∙ ap (λ page. at_page page place) c.self.view_is

@@ -1,4 +1,3 @@
-use Rattle.nona_sparse.specs.declared.page.TheConstants.{PAGE}
 use Rattle.std.proofs.Common.{◌≡◌, ◌≤◌, ◌+◌, ◌∙◌, ap, arith, length}
 use Rattle.std.specs.Option.{unwrap_or}
 use Rattle.nona_sparse.specs.Sparse.{at, cell}
@@ -14,4 +13,4 @@ returns-clause-cells c =
     each_under (at pages) 0 c.loop-index.cells old i.long
     (λ p within.
     let first : p ≡ 0 + p = omega arith in
-    i.cells p within ∙ ap (λ o. unwrap_or o (cell old p)) (all_pages PAGE pages c.loop-index.index p few) ∙ ap (λ n. unwrap_or (at pages n) (cell old p)) first)
+    i.cells p within ∙ ap (λ o. unwrap_or o (cell old p)) (all_pages pages c.loop-index.index p few) ∙ ap (λ n. unwrap_or (at pages n) (cell old p)) first)

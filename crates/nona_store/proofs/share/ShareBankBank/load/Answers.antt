@@ -1,7 +1,7 @@
-use Rattle.std.proofs.Common.{◌≡◌, ◌<◌, length, sym, ap, ◌∙◌, w64, to_z, of_z, ℤ, Option, rules}
+use Rattle.std.proofs.Common.{◌≡◌, sym, ap, ◌∙◌, w64, to_z, of_z, ℤ, Option, rules}
 use Rattle.std.specs.Option.{unwrap_or}
 use Rattle.std.proofs.lemmas.Int.{to_z-of_z}
-use Rattle.nona_tree.specs.Memory.{cells_of, cell_at}
+use Rattle.nona_tree.specs.Memory.{cell_at}
 use Rattle.nona_store.specs.Overlays.{over_of}
 use Rattle.nona_store.proofs.Overlaying.{within_own, has_array, covered}
 use Rattle.nona_store.proofs.share.ShareBankBank.load.Goals as goal

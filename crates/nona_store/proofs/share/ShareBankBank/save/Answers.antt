@@ -1,4 +1,4 @@
-use Rattle.std.proofs.Common.{◌≡◌, ◌<◌, ◌++◌, ℕ, ℤ, [], length, sym, ap, subst, ◌∙◌, w64, of_z, to_z, arith}
+use Rattle.std.proofs.Common.{◌≡◌, ◌<◌, ◌++◌, ℕ, ℤ, [], length, sym, ap, ◌∙◌, w64, of_z, to_z, arith}
 use Rattle.std.proofs.lemmas.Int.{to_z-of_z}
 use Rattle.std.proofs.lemmas.Result.{on_ok_weaker}
 use Rattle.nona_tree.specs.Memory.{Memory, cells_of, put_cell}

@@ -1,7 +1,0 @@
-use Rattle.std.proofs.Common.{◌≡◌, ◌<◌, ◌+◌, ℕ, map, Some}
-use Rattle.nona_sparse.specs.Sparse.{at_page, change_at}
-use Rattle.nona_sparse.proofs.group.full_differs.Given as goal
-
--- the values so far differ
-abbrev pub invariant-places : goal.invariant-places
-invariant-places l = (q : ℕ) → q < l.place → change_at l.cells (l.first + q) (at_page (map Some l.values) q) ≡ at_page (map Some l.values) q
